@@ -1,0 +1,5 @@
+pub mod Moves
+pub mod Inverse
+pub mod Sure
+pub mod Claims
+pub mod Runs

@@ -1,0 +1,16 @@
+use mathlib.Core.Path.{ap, _∙_}
+use lib.ListN.{length, length-set}
+use borrow.Author.Needs.{needs}
+use Rattle.machine.proofs.cycle.plan.Statement.{statement}
+use Rattle.machine.proofs.cycle.plan.Tie as tie
+
+pub plan-spec : {M : Type 1} → statement M
+plan-spec =
+    tie.close
+    (tie.spec
+    (λ c κs. search needs) (λ c κs. search needs) (λ c κs. search needs) (λ c κs. search needs) (λ c κs. search needs)
+    (λ c. ap length (c .before .before .before .before .before .before .put .ensures) ∙ simp length-set)
+    (λ c. (
+      simp (c .judge .ensures, c .before .before .execute .ensures, c .before .before .before .before .before .before .put .ensures, c .before .before .before .before .before .before .before .before .from-pc .ensures, c .before .before .before .before .before .before .before .before .before .before .look .ensures),
+      simp (c .before .before .before .before .before .before .put .ensures, c .before .before .before .before .before .before .before .before .from-pc .ensures),
+    )))

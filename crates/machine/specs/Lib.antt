@@ -1,0 +1,4 @@
+pub mod Turn
+pub mod Calls
+pub mod Claims
+pub mod Batch

@@ -1,0 +1,141 @@
+-- Instruction words (document 01, "Instruction words"): the operation that each word stands for.
+use Prim.Native.Nat.{ℕ, _+_, _*_, _/_, _%_}
+use mathlib.Core.Path.{_≡_}
+use mathlib.Core.Bool.{Bool, true, false, not, _&&_}
+use lib.Dec.{eqb, ltb}
+use Rattle.word.specs.Word.{pick}
+use Rattle.qins.specs.declared.Op.{Op}
+use Rattle.qins.specs.declared.Op.the-variants.{None, Start, Finish, Xor, Add, Sub, Neg, Swap, SwapBits, Fetch, Exchange, Qif, Fiq}
+use Rattle.qins.specs.declared.Source.{Source}
+use Rattle.qins.specs.declared.Source.the-variants.{Imm, Reg, Negated, Complement, Sum, Product, Quotient, Equal, Less, IfZero, IfNonzero, Bit}
+
+-- ---- the fields of a word
+
+-- bits 31-24
+abbrev pub opcode : ℕ → ℕ
+opcode w = w / 16777216
+
+-- bits 23-20
+abbrev pub reg1 : ℕ → ℕ
+reg1 w = w / 1048576 % 16
+
+-- bits 19-16
+abbrev pub reg2 : ℕ → ℕ
+reg2 w = w / 65536 % 16
+
+-- bits 15-0: the immediate of type I, reg3 and para of type O
+abbrev pub low : ℕ → ℕ
+low w = w % 65536
+
+-- the low half's bits 15-12
+abbrev pub reg3 : ℕ → ℕ
+reg3 i = i / 4096
+
+-- the low half has para p in its bits 11-8, and zeros beside it
+abbrev pub para : ℕ → ℕ → Bool
+para i p = eqb i (256 * p)
+
+-- the same with reg3 beside it
+abbrev pub para3 : ℕ → ℕ → Bool
+para3 i p = eqb (i % 4096) (256 * p)
+
+-- a 16-bit immediate with its sign extended to 32 bits
+unfoldable pub extended : ℕ → ℕ
+extended i = pick (ltb i 32768) i (i + 4294901760)
+
+-- ---- which registers a word may name: br (1) never, pc (0) only where it is read, all different
+
+-- no register
+abbrev pub none : ℕ → ℕ → Bool
+none a b = eqb a 0 && eqb b 0
+
+-- a
+abbrev pub one : ℕ → ℕ → Bool
+one a b = ltb 1 a && eqb b 0
+
+-- a, changed, and b, read
+abbrev pub two : ℕ → ℕ → Bool
+two a b = ltb 1 a && (not (eqb b 1) && not (eqb b a))
+
+-- a and b, both not pc
+abbrev pub both : ℕ → ℕ → Bool
+both a b = two a b && ltb 1 b
+
+-- a, changed, and b and c, read
+abbrev pub three : ℕ → ℕ → ℕ → Bool
+three a b c = two a b && (two a c && not (eqb c b))
+
+-- ---- the table, a line an opcode and para
+
+-- the operation where the opcode o is k and the test holds, else the rest
+unfoldable pub line : ℕ → ℕ → Bool → Op → Op → Op
+line o k test op rest = pick (eqb o k && test) op rest
+
+-- by the opcode o, the registers a and b, and the low half i
+-- in order: ld xori addi subi bra bez bnz; ldr fetr swap xor add sub; neg swbr qif fiq; start finish; uni unib ari arib
+unfoldable pub operation : ℕ → ℕ → ℕ → ℕ → Op
+operation o a b i =
+    line o 1 (one a b) (Exchange a (Imm i))
+    (line o 2 (one a b) (Xor a (Imm i))
+    (line o 3 (one a b) (Add a (Imm i))
+    (line o 4 (one a b) (Sub a (Imm i))
+    (line o 5 (none a b) (Xor 1 (Imm (extended i)))
+    (line o 6 (one a b) (Xor 1 (IfZero a (extended i)))
+    (line o 7 (one a b) (Xor 1 (IfNonzero a (extended i)))
+    (line o 16 (two a b && eqb i 0) (Exchange a (Reg b))
+    (line o 17 (two a b && eqb i 0) (Fetch a b)
+    (line o 18 (both a b && eqb i 0) (Swap a b)
+    (line o 19 (two a b && eqb i 0) (Xor a (Reg b))
+    (line o 20 (two a b && eqb i 0) (Add a (Reg b))
+    (line o 21 (two a b && eqb i 0) (Sub a (Reg b))
+    (line o 22 (one a b && eqb i 0) (Neg a)
+    (line o 23 (one a b && eqb i 0) (Swap a 1)
+    (line o 24 (one a b && eqb i 0) (Qif a)
+    (line o 25 (one a b && eqb i 0) (Fiq a)
+    (line o 26 (none a b && eqb i 0) Start
+    (line o 27 (none a b && eqb i 0) Finish
+    (line o 32 (one a b && para i 1) (Xor a (Imm 1))
+    (line o 33 (both a b && para i 1) (Xor b (Bit a))
+    (line o 33 (both a b && para i 2) (SwapBits a b)
+    (line o 34 (two a b && para i 1) (Xor a (Negated b))
+    (line o 34 (two a b && para i 2) (Xor a (Complement b))
+    (line o 35 (three a b (reg3 i) && para3 i 1) (Xor a (Sum b (reg3 i)))
+    (line o 35 (three a b (reg3 i) && para3 i 2) (Xor a (Product b (reg3 i)))
+    (line o 35 (three a b (reg3 i) && para3 i 3) (Xor a (Quotient b (reg3 i)))
+    (line o 35 (three a b (reg3 i) && para3 i 4) (Xor a (Equal b (reg3 i)))
+    (line o 35 (three a b (reg3 i) && para3 i 5) (Xor a (Less b (reg3 i)))
+    None))))))))))))))))))))))))))))
+
+unfoldable pub decode : ℕ → Op
+decode w = operation (opcode w) (reg1 w) (reg2 w) (low w)
+
+-- the one word of start, and of finish: the opcode, and zeros
+abbrev pub startWord : ℕ
+startWord = 436207616
+
+abbrev pub finishWord : ℕ
+finishWord = 452984832
+
+-- 0 no instruction, 1 start, 2 finish, 3 any other
+abbrev pub kind : Op → ℕ
+kind None = 0
+kind Start = 1
+kind Finish = 2
+kind (Xor a v) = 3
+kind (Add a v) = 3
+kind (Sub a v) = 3
+kind (Neg a) = 3
+kind (Swap a b) = 3
+kind (SwapBits a b) = 3
+kind (Fetch a b) = 3
+kind (Exchange a v) = 3
+kind (Qif a) = 3
+kind (Fiq a) = 3
+
+abbrev pub isInstruction : ℕ → Bool
+isInstruction w = not (eqb (kind (decode w)) 0)
+
+-- Claim: start and finish are these words and no other
+pub record OneWord : Type 0 where
+  pub start : (w : ℕ) → eqb w startWord ≡ eqb (kind (decode w)) 1
+  pub finish : (w : ℕ) → eqb w finishWord ≡ eqb (kind (decode w)) 2

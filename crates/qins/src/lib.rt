@@ -1,0 +1,222 @@
+// Instruction words. Several instructions share an operation: bra, bez and bnz xor a source into br,
+// uni 1 and unib 1 xor one into a register, swbr is a swap with br.
+ghost use mathlib.Core.Path.{_≡_};
+ghost use mathlib.Core.Bool.{true, false, not, _&&_};
+ghost use Prim.Native.Nat.{ℕ, _+_, _*_, _/_, _%_, _<_};
+ghost use lib.Dec.{eqb, ltb};
+ghost use Rattle.word.specs.Word.{pick};
+ghost use Rattle.qins.specs.Decode.{extended, none, one, two, both, three, para, operation, decode, kind, isInstruction};
+
+// The word of start, and of finish.
+pub const START: u32 = 0x1A000000;
+
+pub const FINISH: u32 = 0x1B000000;
+
+// What an operation xors, adds, subtracts, or takes for an address. It never reads the register that
+// the operation changes.
+pub enum Source {
+    // the number
+    Imm(u32),
+    // the register's word
+    Reg(usize),
+    // its negation, its complement
+    Negated(usize),
+    Complement(usize),
+    // of two registers
+    Sum(usize, usize),
+    Product(usize, usize),
+    Quotient(usize, usize),
+    // 1 or 0
+    Equal(usize, usize),
+    Less(usize, usize),
+    // the number where the register is 0, or is not, else 0
+    IfZero(usize, u32),
+    IfNonzero(usize, u32),
+    // the register's bit 0
+    Bit(usize),
+}
+
+// A decoded word.
+pub enum Op {
+    // no instruction
+    None,
+    Start,
+    Finish,
+    // the source into the register
+    Xor(usize, Source),
+    Add(usize, Source),
+    Sub(usize, Source),
+    Neg(usize),
+    // two registers exchanged, or their bits 0
+    Swap(usize, usize),
+    SwapBits(usize, usize),
+    // the word at the second register's address xored into the first
+    Fetch(usize, usize),
+    // the register exchanged with the word at the source
+    Exchange(usize, Source),
+    // by the coin in the register
+    Qif(usize),
+    Fiq(usize),
+}
+
+// A 16-bit immediate with its sign.
+fn extended_word(i: u32) -> u32
+    requires { ⌜ i < 65536 ⌝ }
+    ensures { λ r. ⌜ r ≡ extended i ⌝ }
+{
+    if i < 32768 { i } else { i + 4294901760 }
+}
+
+// a, changed, and b, read.
+fn names_two(a: usize, b: usize) -> bool
+    ensures { λ r. ⌜ r ≡ two a b ⌝ }
+{
+    word::both(1 < a, word::both(b != 1, b != a))
+}
+
+// a, changed, and b and c, read.
+fn names_three(a: usize, b: usize, c: usize) -> bool
+    ensures { λ r. ⌜ r ≡ three a b c ⌝ }
+{
+    word::both(names_two(a, b), word::both(names_two(a, c), c != b))
+}
+
+// The operation where the test holds, else the rest.
+fn known(test: bool, op: Op, rest: Op) -> Op
+    ensures { λ r. ⌜ r ≡ pick test op rest ⌝ }
+{
+    if test { op } else { rest }
+}
+
+// The first at para 1, the second at para 2. A para p alone in the low half is 256 p.
+fn two_or_none(test: bool, i: u32, first: Op, second: Op) -> Op
+    ensures { λ r. ⌜ r ≡ pick (test && para i 1) first (pick (test && para i 2) second Op.None) ⌝ }
+{
+    known(
+        word::both(test, i == 256),
+        first,
+        known(word::both(test, i == 512), second, Op::None),
+    )
+}
+
+// arib, by its para.
+fn three_registers(a: usize, b: usize, i: u32) -> Op
+    requires { ⌜ i < 65536 ⌝ }
+    ensures { λ r. ⌜ r ≡ operation 35 a b i ⌝ }
+{
+    let c = (i / 4096) as usize;
+    let p = i % 4096;
+    let test = names_three(a, b, c);
+    let less = known(
+        word::both(test, p == 1280),
+        Op::Xor(a, Source::Less(b, c)),
+        Op::None,
+    );
+    let equal = known(
+        word::both(test, p == 1024),
+        Op::Xor(a, Source::Equal(b, c)),
+        less,
+    );
+    let quotient = known(
+        word::both(test, p == 768),
+        Op::Xor(a, Source::Quotient(b, c)),
+        equal,
+    );
+    let product = known(
+        word::both(test, p == 512),
+        Op::Xor(a, Source::Product(b, c)),
+        quotient,
+    );
+    known(
+        word::both(test, p == 256),
+        Op::Xor(a, Source::Sum(b, c)),
+        product,
+    )
+}
+
+// The tests are made before the match, so that each arm is one choice.
+fn operation_of(o: u32, a: usize, b: usize, i: u32) -> Op
+    requires { ⌜ i < 65536 ⌝ }
+    ensures { λ r. ⌜ r ≡ operation o a b i ⌝ }
+{
+    let alone = i == 0;
+    let one = word::both(1 < a, b == 0);
+    let none = word::both(a == 0, b == 0);
+    let two = names_two(a, b);
+    let pair = word::both(two, 1 < b);
+    let one_alone = word::both(one, alone);
+    let two_alone = word::both(two, alone);
+    let none_alone = word::both(none, alone);
+    let e = extended_word(i);
+    match o {
+        1 => known(one, Op::Exchange(a, Source::Imm(i)), Op::None),
+        2 => known(one, Op::Xor(a, Source::Imm(i)), Op::None),
+        3 => known(one, Op::Add(a, Source::Imm(i)), Op::None),
+        4 => known(one, Op::Sub(a, Source::Imm(i)), Op::None),
+        5 => known(none, Op::Xor(1, Source::Imm(e)), Op::None),
+        6 => known(one, Op::Xor(1, Source::IfZero(a, e)), Op::None),
+        7 => known(one, Op::Xor(1, Source::IfNonzero(a, e)), Op::None),
+        16 => known(two_alone, Op::Exchange(a, Source::Reg(b)), Op::None),
+        17 => known(two_alone, Op::Fetch(a, b), Op::None),
+        18 => known(word::both(pair, alone), Op::Swap(a, b), Op::None),
+        19 => known(two_alone, Op::Xor(a, Source::Reg(b)), Op::None),
+        20 => known(two_alone, Op::Add(a, Source::Reg(b)), Op::None),
+        21 => known(two_alone, Op::Sub(a, Source::Reg(b)), Op::None),
+        22 => known(one_alone, Op::Neg(a), Op::None),
+        23 => known(one_alone, Op::Swap(a, 1), Op::None),
+        24 => known(one_alone, Op::Qif(a), Op::None),
+        25 => known(one_alone, Op::Fiq(a), Op::None),
+        26 => known(none_alone, Op::Start, Op::None),
+        27 => known(none_alone, Op::Finish, Op::None),
+        32 => known(
+            word::both(one, i == 256),
+            Op::Xor(a, Source::Imm(1)),
+            Op::None,
+        ),
+        33 => two_or_none(pair, i, Op::Xor(b, Source::Bit(a)), Op::SwapBits(a, b)),
+        34 => two_or_none(
+            two,
+            i,
+            Op::Xor(a, Source::Negated(b)),
+            Op::Xor(a, Source::Complement(b)),
+        ),
+        35 => three_registers(a, b, i),
+        _ => Op::None,
+    }
+}
+
+// The operation of a word; every word has one.
+pub fn decode_word(w: u32) -> Op
+    ensures { λ r. ⌜ r ≡ decode w ⌝ }
+{
+    let a = (w / 1048576 % 16) as usize;
+    let b = (w / 65536 % 16) as usize;
+    operation_of(w / 16777216, a, b, w % 65536)
+}
+
+// 0 no instruction, 1 start, 2 finish, 3 any other. Each variant is named, so that a proof sees which it is.
+fn kind_of(op: Op) -> u32
+    ensures { λ r. ⌜ r ≡ kind op ⌝ }
+{
+    match op {
+        Op::None => 0,
+        Op::Start => 1,
+        Op::Finish => 2,
+        Op::Xor(_a, _v) => 3,
+        Op::Add(_a, _v) => 3,
+        Op::Sub(_a, _v) => 3,
+        Op::Neg(_a) => 3,
+        Op::Swap(_a, _b) => 3,
+        Op::SwapBits(_a, _b) => 3,
+        Op::Fetch(_a, _b) => 3,
+        Op::Exchange(_a, _v) => 3,
+        Op::Qif(_a) => 3,
+        Op::Fiq(_a) => 3,
+    }
+}
+
+pub fn is_instruction(w: u32) -> bool
+    ensures { λ r. ⌜ r ≡ isInstruction w ⌝ }
+{
+    kind_of(decode_word(w)) != 0
+}

@@ -1,0 +1,11 @@
+use borrow.Author.Needs.{needs}
+use Rattle.step.proofs.operation.refused_if.Statement.{statement}
+use Rattle.step.proofs.operation.refused_if.Tie as tie
+
+pub refused-if-spec : {M : Type 1} → statement M
+unfolding Rattle.step.specs.Step.refuse
+refused-if-spec =
+    tie.close
+    (tie.spec
+    (λ c. rw (c .if1 .taken))
+    (λ c. search needs))

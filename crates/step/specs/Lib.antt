@@ -1,0 +1,4 @@
+pub mod State
+pub mod Table
+pub mod Step
+pub mod Operand

@@ -1,0 +1,149 @@
+-- What one instruction does at a fixed pc, either way (document 01, "Effects", "A forward turn", "A back turn").
+use Prim.Native.Nat.{ℕ, _+_, _-_, _*_, _%_}
+use mathlib.Core.Bool.{Bool, true, false, not, _&&_}
+use mathlib.Core.List.{List}
+use lib.Dec.{eqb, ltb, leb}
+use lib.ListN.{getD, set}
+use lib.Bits.{bitXor}
+use Rattle.word.specs.Word.{pick, addWord, subWord, mulWord, divWord, complement, withBit}
+use Rattle.qins.specs.declared.Op.{Op}
+use Rattle.qins.specs.declared.Op.the-variants.{None, Start, Finish, Xor, Add, Sub, Neg, Swap, SwapBits, Fetch, Exchange, Qif, Fiq}
+use Rattle.qins.specs.declared.Source.{Source}
+use Rattle.qins.specs.declared.Source.the-variants.{Imm, Reg, Negated, Complement, Sum, Product, Quotient, Equal, Less, IfZero, IfNonzero, Bit}
+use Rattle.step.specs.State.{State, reg, flip}
+use Rattle.step.specs.Table.{fc, lc, cf, cl, nx, pr, w, link, paired}
+use Rattle.step.specs.declared.Status.{Status}
+use Rattle.step.specs.declared.Direction.{Direction}
+use Rattle.step.specs.declared.Direction.the-variants.{Forward, Back}
+use Rattle.step.specs.declared.Effect.{Effect}
+use Rattle.step.specs.declared.Effect.the-variants.{Nothing, Write, WriteTwo, Trade, Visit}
+use Rattle.step.specs.declared.Attempt.{Attempt}
+use Rattle.step.specs.declared.Attempt.the-variants.{Refused, Does}
+
+-- ---- an effect, performed: its operands are read already
+
+-- the registers after it
+abbrev pub written : Effect → List ℕ → List ℕ → List ℕ
+written Nothing l m = l
+written (Write a v) l m = set l a v
+written (WriteTwo a v b x) l m = set (set l a v) b x
+written (Trade a i) l m = set l a (getD m i 0)
+written (Visit u j) l m = l
+
+-- the memory after it
+abbrev pub stored : Effect → List ℕ → List ℕ → List ℕ
+stored Nothing l m = m
+stored (Write a v) l m = m
+stored (WriteTwo a v b x) l m = m
+stored (Trade a i) l m = set m i (getD l a 0)
+stored (Visit u j) l m = m
+
+-- the node and the wait count after it
+abbrev pub marked : Effect → Status → Status
+marked Nothing at = at
+marked (Write a v) at = at
+marked (WriteTwo a v b x) at = at
+marked (Trade a i) at = at
+marked (Visit u j) at = record { qifv = u; qifw = j; k = at .k; m = at .m; n = at .n }
+
+abbrev pub performed : Effect → State → State
+performed e s =
+    record { at = marked e (s .at); regs = written e (s .regs) (s .memory); memory = stored e (s .regs) (s .memory) }
+
+-- ---- operands
+
+-- a source's value, by the registers
+unfoldable pub value : Source → List ℕ → ℕ
+value (Imm i) l = i
+value (Reg a) l = getD l a 0
+value (Negated a) l = subWord 0 (getD l a 0)
+value (Complement a) l = complement (getD l a 0)
+value (Sum a b) l = addWord (getD l a 0) (getD l b 0)
+value (Product a b) l = mulWord (getD l a 0) (getD l b 0)
+value (Quotient a b) l = divWord (getD l a 0) (getD l b 0)
+value (Equal a b) l = pick (eqb (getD l a 0) (getD l b 0)) 1 0
+value (Less a b) l = pick (ltb (getD l a 0) (getD l b 0)) 1 0
+value (IfZero a i) l = pick (eqb (getD l a 0) 0) i 0
+value (IfNonzero a i) l = pick (eqb (getD l a 0) 0) 0 i
+value (Bit a) l = getD l a 0 % 2
+
+-- x plus v, or less v on the way back
+abbrev pub shifted : Direction → ℕ → ℕ → ℕ
+shifted Forward x v = addWord x v
+shifted Back x v = subWord x v
+
+-- ---- refusals, each by its number
+
+-- refused by the number where the test holds, else the rest
+unfoldable pub refuse : Bool → ℕ → Attempt → Attempt
+refuse true n rest = Refused n
+refuse false n rest = rest
+
+-- 14 while waiting
+abbrev pub calm : Status → Attempt → Attempt
+calm at rest = refuse (not (eqb (at .qifw) 0)) 14 rest
+
+-- 15 for an address not in K to M-1
+abbrev pub isData : Status → ℕ → Bool
+isData at i = leb (at .k) i && ltb i (at .m)
+
+abbrev pub inData : Status → ℕ → Attempt → Attempt
+inData at i rest = refuse (not (isData at i)) 15 rest
+
+-- 16 for a coin that is neither 0 nor 1
+abbrev pub isCoin : ℕ → Attempt → Attempt
+isCoin x rest = refuse (ltb 1 x) 16 rest
+
+-- ---- qif, waiting and fiq, over the table t, with coin x
+
+module _ (t : List ℕ) where
+  -- qif: from v to u, its first child
+  unfoldable pub enter : Status → ℕ → ℕ → Attempt
+  enter at x u = refuse (not (paired t (at .n) (at .qifv) (fc x) u cf)) 17 (Does (Visit u (link t (at .n) u w)))
+
+  -- the present node is v's first child, and the wait count is at most its w
+  unfoldable pub child : Status → ℕ → ℕ → Attempt → Attempt
+  child at x v rest =
+      refuse (not (paired t (at .n) v (fc x) (at .qifv) cf)) 17
+      (refuse (ltb (link t (at .n) (at .qifv) w) (at .qifw)) 14 rest)
+
+  unfoldable pub qif : Direction → Status → ℕ → Attempt
+  qif Forward at x =
+      pick (eqb (at .qifw) 0)
+      (enter at x (link t (at .n) (at .qifv) (fc x)))
+      (child at x (link t (at .n) (at .qifv) cf) (Does (Visit (at .qifv) (at .qifw - 1))))
+  qif Back at x =
+      child at x (link t (at .n) (at .qifv) cf)
+      (Does (pick (ltb (at .qifw) (link t (at .n) (at .qifv) w)) (Visit (at .qifv) (at .qifw + 1)) (Visit (link t (at .n) (at .qifv) cf) 0)))
+
+  -- fiq: v is p's last child and u is next to p; it leads to the node y, one of the two
+  unfoldable pub pass : Status → ℕ → ℕ → ℕ → ℕ → ℕ → Attempt
+  pass at x v p u y =
+      refuse (not (paired t (at .n) p (lc x) v cl && paired t (at .n) p nx u pr)) 17 (Does (Visit y (at .qifw)))
+
+  unfoldable pub fiq : Direction → Status → ℕ → Attempt
+  fiq Forward at x =
+      let p = link t (at .n) (at .qifv) cl in
+      let u = link t (at .n) p nx in
+      pass at x (at .qifv) p u u
+  fiq Back at x =
+      let p = link t (at .n) (at .qifv) pr in
+      let v = link t (at .n) p (lc x) in
+      pass at x v p (at .qifv) v
+
+  -- ---- an operation: its effect, or its refusal in the order 13, 14, 15, 16, 17, 14
+
+  unfoldable pub attempt : Direction → Op → State → Attempt
+  attempt d None s = Refused 13
+  attempt d Start s = calm (s .at) (Does Nothing)
+  attempt d Finish s = calm (s .at) (Does Nothing)
+  attempt d (Xor a v) s = calm (s .at) (Does (Write a (bitXor (reg s a) (value v (s .regs)))))
+  attempt d (Add a v) s = calm (s .at) (Does (Write a (shifted d (reg s a) (value v (s .regs)))))
+  attempt d (Sub a v) s = calm (s .at) (Does (Write a (shifted (flip d) (reg s a) (value v (s .regs)))))
+  attempt d (Neg a) s = calm (s .at) (Does (Write a (subWord 0 (reg s a))))
+  attempt d (Swap a b) s = calm (s .at) (Does (WriteTwo a (reg s b) b (reg s a)))
+  attempt d (SwapBits a b) s = calm (s .at) (Does (WriteTwo a (withBit (reg s a) (reg s b)) b (withBit (reg s b) (reg s a))))
+  attempt d (Fetch a b) s = calm (s .at) (inData (s .at) (reg s b) (Does (Write a (bitXor (reg s a) (getD (s .memory) (reg s b) 0)))))
+  attempt d (Exchange a v) s = calm (s .at) (inData (s .at) (value v (s .regs)) (Does (Trade a (value v (s .regs)))))
+  attempt d (Qif a) s = isCoin (reg s a) (qif d (s .at) (reg s a))
+  attempt d (Fiq a) s = calm (s .at) (isCoin (reg s a) (fiq d (s .at) (reg s a)))

@@ -1,0 +1,38 @@
+// One instruction at a fixed pc, either way: what it would do, or why it is refused; and the lent
+// words that it reads and writes.
+pub mod lent;
+pub mod operand;
+pub mod operation;
+pub mod perform;
+pub mod table;
+
+// The record beside its registers: the node qifv, the wait count qifw and the sizes.
+pub struct Status {
+    pub qifv: u32,
+    pub qifw: u32,
+    pub k: u32,
+    pub m: u32,
+    pub n: u32,
+}
+
+pub enum Direction {
+    Forward,
+    Back,
+}
+
+// What an instruction does, with its operands read.
+pub enum Effect {
+    Nothing,
+    // a register gets a word, or two do
+    Write(usize, u32),
+    WriteTwo(usize, u32, usize, u32),
+    // a register is exchanged with the word at an address
+    Trade(usize, u32),
+    // the node and the wait count are set
+    Visit(u32, u32),
+}
+
+pub enum Attempt {
+    Refused(u32),
+    Does(Effect),
+}

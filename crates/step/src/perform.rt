@@ -1,0 +1,75 @@
+// Effects performed: on the status, on the lent registers and on the lent memory.
+ghost use mathlib.Core.Path.{_≡_};
+ghost use mathlib.Core.List.{_++_};
+ghost use mathlib.Core.Bool.{_&&_};
+ghost use lib.Dec.{eqb, ltb};
+ghost use lib.ListN.{length, getD, take, drop};
+ghost use Rattle.word.specs.Word.{pick};
+ghost use Rattle.step.specs.Step.{written, stored, marked};
+use crate::Effect;
+use crate::Status;
+use crate::lent::look;
+use crate::lent::put;
+use crate::lent::store;
+use crate::lent::word_at;
+
+// v where register a is set, and is register j, which there is; else x.
+fn if_set(regs: &[u32], a: usize, v: u32, j: usize, x: u32) -> u32
+    ensures { λ r. ⌜ r ≡ pick (eqb a j && ltb j (length (now (regs .entry)))) v x ⌝ }
+{
+    word::choose(word::both(a == j, j < regs.len()), v, x)
+}
+
+// Register j as the effect would leave it.
+pub fn after(e: Effect, regs: &[u32], mem: &[u32], m: u32, j: usize) -> u32
+    ensures { λ r. ⌜ r ≡ getD (written e (now (regs .entry)) (take m (now (mem .entry)))) j 0 ⌝ }
+{
+    let x = look(regs, j);
+    match e {
+        Effect::Nothing => x,
+        Effect::Write(a, v) => if_set(regs, a, v, j, x),
+        Effect::WriteTwo(a, v, b, y) => if_set(regs, b, y, j, if_set(regs, a, v, j, x)),
+        Effect::Trade(a, i) => if_set(regs, a, word_at(mem, m, i), j, x),
+        Effect::Visit(_u, _j) => x,
+    }
+}
+
+// The status as the effect leaves it.
+pub fn status_after(e: Effect, at: Status) -> Status
+    ensures { λ r. ⌜ r ≡ marked e at ⌝ }
+{
+    match e {
+        Effect::Nothing => at,
+        Effect::Write(_a, _v) => at,
+        Effect::WriteTwo(_a, _v, _b, _y) => at,
+        Effect::Trade(_a, _i) => at,
+        Effect::Visit(u, j) => Status {
+            qifv: u,
+            qifw: j,
+            k: at.k,
+            m: at.m,
+            n: at.n,
+        },
+    }
+}
+
+pub fn apply(e: Effect, regs: &mut [u32], mem: &mut [u32], m: u32)
+    ensures { λ _.
+        ⌜ (now (regs .exit) ≡ written e (now (regs .entry)) (take m (now (mem .entry))))
+        × (now (mem .exit) ≡ stored e (now (regs .entry)) (take m (now (mem .entry))) ++ drop m (now (mem .entry))) ⌝ }
+{
+    match e {
+        Effect::Nothing => {}
+        Effect::Write(a, v) => put(regs, a, v),
+        Effect::WriteTwo(a, v, b, y) => {
+            put(regs, a, v);
+            put(regs, b, y);
+        }
+        Effect::Trade(a, i) => {
+            let v = word_at(mem, m, i);
+            store(mem, m, i, look(regs, a));
+            put(regs, a, v);
+        }
+        Effect::Visit(_u, _j) => {}
+    }
+}

@@ -1,0 +1,71 @@
+// Arithmetic on words of 32 bits, and choices by a test.
+ghost use mathlib.Core.Path.{_≡_};
+ghost use mathlib.Core.Bool.{true, false, _&&_};
+ghost use Prim.Native.Nat.{_+_, _-_, _*_, _/_, _%_, _<_};
+ghost use lib.Bits.{bitXor};
+ghost use lib.Dec.{eqb, ltb};
+ghost use Rattle.word.specs.Word.{pick, addWord, subWord, mulWord, divWord, complement, withBit};
+
+pub fn add_word(a: u32, b: u32) -> u32
+    ensures { λ r. ⌜ r ≡ addWord a b ⌝ }
+{
+    std::num::wrapping_add_u32(a, b)
+}
+
+pub fn sub_word(a: u32, b: u32) -> u32
+    ensures { λ r. ⌜ r ≡ subWord a b ⌝ }
+{
+    std::num::wrapping_sub_u32(a, b)
+}
+
+pub fn xor_word(a: u32, b: u32) -> u32
+    ensures { λ r. ⌜ r ≡ bitXor a b ⌝ }
+{
+    a ^ b
+}
+
+pub fn mul_word(a: u32, b: u32) -> u32
+    ensures { λ r. ⌜ r ≡ mulWord a b ⌝ }
+{
+    ((a as u64) * (b as u64) % 4294967296) as u32
+}
+
+// The quotient, 0 for divisor 0.
+pub fn div_word(a: u32, b: u32) -> u32
+    ensures { λ r. ⌜ r ≡ divWord a b ⌝ }
+{
+    if b == 0 { 0 } else { a / b }
+}
+
+pub fn complement_of(a: u32) -> u32
+    ensures { λ r. ⌜ r ≡ complement a ⌝ }
+{
+    4294967295 - a
+}
+
+// a with bit 0 of b.
+pub fn with_bit(a: u32, b: u32) -> u32
+    ensures { λ r. ⌜ r ≡ withBit a b ⌝ }
+{
+    a / 2 * 2 + b % 2
+}
+
+pub fn low_bit(a: u32) -> u32
+    ensures { λ r. ⌜ r ≡ a % 2 ⌝ }
+{
+    a % 2
+}
+
+// a where the test holds, else b.
+pub fn choose(test: bool, a: u32, b: u32) -> u32
+    ensures { λ r. ⌜ r ≡ pick test a b ⌝ }
+{
+    if test { a } else { b }
+}
+
+// Both tests hold. A call, since the second half of an && tells a proof less.
+pub fn both(a: bool, b: bool) -> bool
+    ensures { λ r. ⌜ r ≡ a && b ⌝ }
+{
+    if a { b } else { false }
+}

@@ -1,0 +1,84 @@
+//! Comparison of an implementation's answers with the model's.
+
+use crate::cover::Cover;
+use crate::generate::{Machine, Turn, Way};
+
+/// What a batch gave: the turns made and the refusal.
+#[derive(Clone, Copy, Debug, PartialEq, Eq)]
+pub struct Made {
+    pub turns: u32,
+    pub refusal: u32,
+}
+
+/// Makes the same turn with the model and with `turn`, and compares refusal,
+/// record and all lent words. `machine` becomes the result.
+pub fn same_turn(way: Way, machine: &mut Machine, turn: Turn, cover: &mut Cover) -> u32 {
+    let start = machine.clone();
+    let mut other = machine.clone();
+    let refusal = machine.turn(way.model());
+    let other_refusal = other.turn(turn);
+    assert!(
+        refusal == other_refusal && *machine == other,
+        "{way:?} turn differs: model {refusal} {machine:?}, library {other_refusal} {other:?}, \
+         from {start:?}"
+    );
+    cover.turn(way, &start.record, refusal, machine);
+    refusal
+}
+
+/// Checks that an accepted turn is undone exactly by its reverse, and that a
+/// refused one changes nothing.
+pub fn returns(way: Way, machine: &Machine, turns: [Turn; 2], cover: &mut Cover) {
+    let mut after = machine.clone();
+    let refusal = after.turn(turns[way as usize]);
+    cover.turn(way, &machine.record, refusal, &after);
+    if refusal == 0 {
+        let undone = after.turn(turns[way.reverse() as usize]);
+        assert_eq!(undone, 0, "{way:?} turn can't be undone: {machine:?}");
+    }
+    assert_eq!(&after, machine, "{way:?} turn, refusal {refusal}");
+}
+
+/// Makes the `made.turns` single turns of a batch of `n` with the model and
+/// checks the bounds on the turns and the refusal.
+pub fn follow(way: Way, model: &mut Machine, n: u32, made: Made, cover: &mut Cover) {
+    assert!(made.turns <= n, "{way:?} batch of {n} gave {made:?}");
+    for i in 0..made.turns {
+        let old = model.record;
+        let refusal = model.turn(way.model());
+        cover.turn(way, &old, refusal, model);
+        assert_eq!(
+            refusal, 0,
+            "{way:?} batch of {n} gave {made:?}, turn {i} is refused: {model:?}"
+        );
+    }
+    let mut expected = 0;
+    if made.turns < n {
+        let mut next = model.clone();
+        expected = next.turn(way.model());
+        cover.turn(way, &model.record, expected, &next);
+        assert!(
+            made.turns > 0 || expected != 0,
+            "{way:?} batch of {n} stays still: {model:?}"
+        );
+    }
+    assert_eq!(made.refusal, expected, "{way:?} batch of {n}: {model:?}");
+}
+
+/// Whether at most `limit` turns end in a refusal. A batch with a large n is
+/// asked only where they do, as it may otherwise run for very long.
+pub fn ends_within(way: Way, machine: &Machine, limit: u32) -> bool {
+    let mut machine = machine.clone();
+    (0..limit).any(|_| machine.turn(way.model()) != 0)
+}
+
+/// Numbers for batches: small, edge and large ones.
+pub fn batch_size(rng: &mut crate::rng::Rng, way: Way, machine: &Machine) -> u32 {
+    let small = rng.below(6);
+    let middle = rng.below(300);
+    let wanted = rng.pick(&[0, 1, 2, small, middle, 1_000, u32::MAX - 1, u32::MAX]);
+    if wanted > 1_000 && !ends_within(way, machine, 20_000) {
+        return middle;
+    }
+    wanted
+}

@@ -1,0 +1,112 @@
+//! Damage to single fields of a machine.
+
+use crate::generate::{Machine, EXTREMES};
+use crate::instruction::Instruction::{Fiq, Qif};
+use crate::instruction::{decode, BR, FINISH, PC, START};
+use crate::machine::{MAX_M, MAX_N, NODE};
+use crate::rng::Rng;
+
+fn damage_size(rng: &mut Rng, machine: &mut Machine) {
+    let r = &mut machine.record;
+    let (k, m) = (r.k, r.m);
+    match rng.below(9) {
+        0 => r.k = rng.pick(&[0, m, m.wrapping_add(1), u32::MAX]),
+        1 => r.m = rng.pick(&[0, k, k.wrapping_sub(1), MAX_M, MAX_M + 1, u32::MAX]),
+        2 => r.n = rng.pick(&[0, r.n.wrapping_add(1), MAX_N, MAX_N + 1, u32::MAX]),
+        3 => r.n = rng.pick(&[0x1000_0000, 0x8000_0000, 477_218_589, 954_437_177]),
+        4 => r.k = rng.between(0, m.min(40) + 2),
+        5 => r.m = rng.between(0, 40),
+        6 => machine.mem.truncate((m as usize).saturating_sub(1)),
+        7 => {
+            let words = NODE * r.n.min(MAX_N) as usize;
+            machine.table.truncate(words.saturating_sub(1));
+        }
+        _ => {
+            let len = rng.index(machine.mem.len() + 1);
+            machine.mem.truncate(len);
+        }
+    }
+}
+
+fn damage_link(rng: &mut Rng, machine: &mut Machine) {
+    if machine.table.is_empty() {
+        return;
+    }
+    let at = rng.index(machine.table.len());
+    let n = machine.record.n;
+    let one_off = machine.table[at].wrapping_add(1);
+    let noise = rng.word();
+    let near = rng.below(n.min(MAX_N) + 2);
+    machine.table[at] = rng.pick(&[0, one_off, noise, near, n, n.wrapping_add(1), u32::MAX]);
+}
+
+fn damage_code(rng: &mut Rng, machine: &mut Machine) {
+    if machine.mem.is_empty() {
+        return;
+    }
+    let at = rng.index(machine.mem.len());
+    let noise = rng.word();
+    let stray = machine.mem[at] ^ (1 << rng.below(32));
+    machine.mem[at] = rng.pick(&[stray, stray, noise, START, FINISH, 0]);
+}
+
+/// Puts start or finish at pc or around it.
+fn damage_near_pc(rng: &mut Rng, machine: &mut Machine) {
+    let pc = machine.record.regs[PC];
+    let br = machine.record.regs[BR];
+    let at = rng.pick(&[
+        pc,
+        pc.wrapping_add(1),
+        pc.wrapping_sub(1),
+        pc.wrapping_add(br),
+        pc.wrapping_sub(br),
+    ]);
+    if let Some(word) = machine.mem.get_mut(at as usize) {
+        *word = rng.pick(&[START, FINISH]);
+    }
+}
+
+/// Sets a register that some instruction names to a value out of place.
+fn damage_register(rng: &mut Rng, machine: &mut Machine) {
+    let reg = rng.index(16);
+    let noise = rng.word();
+    let (k, m) = (machine.record.k, machine.record.m);
+    let edge = rng.pick(&[k.wrapping_sub(1), k, m, m.wrapping_sub(1)]);
+    let extreme = rng.pick(&EXTREMES);
+    machine.record.regs[reg] = rng.pick(&[noise, edge, extreme, 2]);
+}
+
+/// Sets the coin of the qif or fiq at pc to another value.
+fn damage_coin(rng: &mut Rng, machine: &mut Machine) {
+    let pc = machine.record.regs[PC];
+    let at = rng.pick(&[pc, pc.wrapping_sub(1)]) as usize;
+    if let Some(Qif { a } | Fiq { a }) = machine.mem.get(at).and_then(|word| decode(*word)) {
+        let noise = rng.word();
+        let coin = &mut machine.record.regs[usize::from(a)];
+        let flipped = *coin ^ 1;
+        *coin = rng.pick(&[2, noise, flipped, u32::MAX]);
+    }
+}
+
+fn damage_wait(rng: &mut Rng, machine: &mut Machine) {
+    let r = &mut machine.record;
+    let noise = rng.word();
+    let up = r.qifw.wrapping_add(1);
+    match rng.below(3) {
+        0 => r.qifv = rng.pick(&[0, r.n, r.n.wrapping_add(1), noise, u32::MAX]),
+        _ => r.qifw = rng.pick(&[0, 1, 2, up, 5, noise, u32::MAX]),
+    }
+}
+
+/// Damages one field of the machine.
+pub fn damage(rng: &mut Rng, machine: &mut Machine) {
+    match rng.below(10) {
+        0 => damage_size(rng, machine),
+        1 | 2 => damage_link(rng, machine),
+        3 => damage_code(rng, machine),
+        4 | 5 => damage_near_pc(rng, machine),
+        6 => damage_register(rng, machine),
+        7 => damage_coin(rng, machine),
+        _ => damage_wait(rng, machine),
+    }
+}

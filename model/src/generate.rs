@@ -1,0 +1,380 @@
+//! Random machines: mostly valid ones and noise.
+
+use crate::damage::damage;
+use crate::instruction::Instruction::*;
+use crate::instruction::{decode, word_i, word_o, word_r, BR, FINISH, PC, START};
+use crate::machine::{self, Record, CF, CL, FC, LC, NODE, PR, W};
+use crate::nodes::random_table;
+use crate::rng::Rng;
+use crate::structured;
+
+/// A record with lent memory and table.
+#[derive(Clone, Debug, PartialEq, Eq)]
+pub struct Machine {
+    pub record: Record,
+    pub mem: Vec<u32>,
+    pub table: Vec<u32>,
+}
+
+/// Direction of a turn.
+#[derive(Clone, Copy, Debug, PartialEq, Eq)]
+pub enum Way {
+    Forward,
+    Back,
+}
+
+pub const WAYS: [Way; 2] = [Way::Forward, Way::Back];
+
+/// A single turn, of the model or of the library.
+pub type Turn = fn(Record, &mut [u32], &[u32]) -> (u32, Record);
+
+impl Way {
+    pub fn reverse(self) -> Way {
+        match self {
+            Way::Forward => Way::Back,
+            Way::Back => Way::Forward,
+        }
+    }
+
+    /// The model's turn in this direction.
+    pub fn model(self) -> Turn {
+        match self {
+            Way::Forward => machine::forward,
+            Way::Back => machine::back,
+        }
+    }
+}
+
+impl Machine {
+    /// Makes a turn and gives its refusal.
+    pub fn turn(&mut self, turn: Turn) -> u32 {
+        let (refusal, record) = turn(self.record, &mut self.mem, &self.table);
+        self.record = record;
+        refusal
+    }
+
+    /// The words that the sizes count, all if there are fewer.
+    pub fn counted(&self) -> (&[u32], &[u32]) {
+        let m = self.mem.len().min(self.record.m as usize);
+        let words = (NODE as u64 * u64::from(self.record.n)).min(self.table.len() as u64);
+        (&self.mem[..m], &self.table[..words as usize])
+    }
+}
+
+/// Every opcode and para that is an instruction; para 0 outside type O.
+pub const KINDS: [(u32, u32); 29] = [
+    (1, 0),
+    (2, 0),
+    (3, 0),
+    (4, 0),
+    (5, 0),
+    (6, 0),
+    (7, 0),
+    (16, 0),
+    (17, 0),
+    (18, 0),
+    (19, 0),
+    (20, 0),
+    (21, 0),
+    (22, 0),
+    (23, 0),
+    (24, 0),
+    (25, 0),
+    (26, 0),
+    (27, 0),
+    (32, 1),
+    (33, 1),
+    (33, 2),
+    (34, 1),
+    (34, 2),
+    (35, 1),
+    (35, 2),
+    (35, 3),
+    (35, 4),
+    (35, 5),
+];
+
+/// Words at the edges of the range and around the sizes.
+pub const EXTREMES: [u32; 14] = [
+    0,
+    1,
+    2,
+    3,
+    511,
+    512,
+    0x7FFF,
+    0x8000,
+    0xFFFF,
+    0x7FFF_FFFF,
+    0x8000_0000,
+    0xFFFF_FFFE,
+    0xFFFF_FFFF,
+    8192,
+];
+
+/// A register that is neither pc nor br.
+fn plain(rng: &mut Rng) -> usize {
+    rng.between(2, 15) as usize
+}
+
+/// A register other than br and those in `not`, sometimes pc.
+fn source(rng: &mut Rng, not: &[usize]) -> usize {
+    loop {
+        let reg = if rng.chance(1, 8) { PC } else { plain(rng) };
+        if !not.contains(&reg) {
+            return reg;
+        }
+    }
+}
+
+/// A plain register other than `not`.
+fn other(rng: &mut Rng, not: usize) -> usize {
+    loop {
+        let reg = plain(rng);
+        if reg != not {
+            return reg;
+        }
+    }
+}
+
+/// A valid word of the given kind; `k` and `m` steer addresses.
+pub fn word_of(rng: &mut Rng, kind: (u32, u32), k: u32, m: u32) -> u32 {
+    let (opcode, para) = kind;
+    let a = plain(rng);
+    let any = rng.word();
+    match opcode {
+        1 if m > k && rng.chance(7, 8) => word_i(1, a, rng.between(k, m - 1)),
+        1 => word_i(1, a, rng.pick(&[0, k.wrapping_sub(1), m, any])),
+        5 => word_i(5, 0, offset(rng)),
+        6 | 7 => word_i(opcode, a, offset(rng)),
+        2..=4 => word_i(opcode, a, any),
+        18 => word_r(18, a, other(rng, a)),
+        16..=21 => word_r(opcode, a, source(rng, &[a])),
+        22..=25 => word_r(opcode, a, 0),
+        26 | 27 => word_r(opcode, 0, 0),
+        32 => word_o(32, para, a, 0, 0),
+        33 => word_o(33, para, a, other(rng, a), 0),
+        34 => word_o(34, para, a, source(rng, &[a]), 0),
+        _ => {
+            let b = source(rng, &[a]);
+            word_o(35, para, a, b, source(rng, &[a, b]))
+        }
+    }
+}
+
+/// A branch offset, mostly near.
+fn offset(rng: &mut Rng) -> u32 {
+    if rng.chance(1, 12) {
+        return rng.word();
+    }
+    rng.below(13).wrapping_sub(6)
+}
+
+fn register_value(rng: &mut Rng, k: u32, m: u32) -> u32 {
+    match rng.below(8) {
+        0..=2 => rng.below(2),
+        3 | 4 if m > k => rng.between(k, m - 1),
+        5 => rng.pick(&EXTREMES),
+        6 => rng.below(16),
+        _ => rng.word(),
+    }
+}
+
+/// Code of valid words, with start and finish now and then.
+fn random_code(rng: &mut Rng, k: u32, m: u32) -> Vec<u32> {
+    let word = |rng: &mut Rng| loop {
+        let kind = match rng.below(8) {
+            0 => (24, 0),
+            1 => (25, 0),
+            _ => rng.pick(&KINDS),
+        };
+        // Start and finish end runs, so they are kept rarer than the rest.
+        if !(kind.0 == 26 || kind.0 == 27) || rng.chance(1, 2) {
+            return word_of(rng, kind, k, m);
+        }
+    };
+    (0..k).map(|_| word(rng)).collect()
+}
+
+/// Valid code, paired table, and a record that mostly fits them.
+pub fn valid(rng: &mut Rng) -> Machine {
+    let k = rng.between(1, 24);
+    let m = k + rng.below(12);
+    let mut mem = random_code(rng, k, m);
+    for _ in k..m {
+        let word = rng.pick(&[START, FINISH, 0, 1]);
+        mem.push(if rng.chance(1, 4) { word } else { rng.word() });
+    }
+    let table = if rng.chance(1, 12) {
+        Vec::new()
+    } else {
+        random_table(rng, 8)
+    };
+    let n = (table.len() / NODE) as u32;
+    let mut regs = [0; 16];
+    for reg in regs.iter_mut().skip(2) {
+        *reg = register_value(rng, k, m);
+    }
+    regs[PC] = rng.below(k);
+    let record = Record {
+        regs,
+        qifv: rng.between(u32::from(n > 0), n),
+        qifw: 0,
+        k,
+        m,
+        n,
+    };
+    let mut machine = Machine { record, mem, table };
+    excess(rng, &mut machine);
+    machine
+}
+
+/// Lends more words than the sizes need, now and then.
+pub fn excess(rng: &mut Rng, machine: &mut Machine) {
+    if rng.chance(1, 2) {
+        let words = rng.below(12) as usize;
+        machine.mem.extend(rng.words(words));
+    }
+    if rng.chance(1, 2) {
+        let words = rng.below(30) as usize;
+        machine.table.extend(rng.words(words));
+    }
+}
+
+/// Nodes whose link in `field` is not 0.
+fn linked(machine: &Machine, field: usize) -> Vec<u32> {
+    (1..=machine.record.n)
+        .filter(|v| machine.table[NODE * (*v as usize - 1) + field] != 0)
+        .collect()
+}
+
+fn field(machine: &Machine, node: u32, field: usize) -> u32 {
+    machine.table[NODE * (node as usize - 1) + field]
+}
+
+/// Sets node and coin so that a forward qif at pc is accepted.
+fn aim_qif(rng: &mut Rng, machine: &mut Machine, coin: usize) {
+    let nodes = linked(machine, FC);
+    if !nodes.is_empty() {
+        machine.record.qifv = rng.pick(&nodes);
+        machine.record.regs[coin] = rng.below(2);
+    }
+}
+
+/// Sets node and coin to those after a qif, with wait count 0.
+fn aim_child(rng: &mut Rng, machine: &mut Machine, coin: usize) {
+    let nodes = linked(machine, CF);
+    if !nodes.is_empty() {
+        let u = rng.pick(&nodes);
+        let v = field(machine, u, CF);
+        machine.record.qifv = u;
+        machine.record.regs[coin] = u32::from(field(machine, v, FC) != u);
+    }
+}
+
+/// As `aim_child`, with a wait count up to w.
+fn aim_wait(rng: &mut Rng, machine: &mut Machine, coin: usize) {
+    aim_child(rng, machine, coin);
+    if linked(machine, CF).is_empty() {
+        return;
+    }
+    let w = field(machine, machine.record.qifv, W);
+    machine.record.qifw = rng.between(w.min(1), w);
+}
+
+/// Sets node and coin so that a fiq is accepted.
+fn aim_fiq(rng: &mut Rng, machine: &mut Machine, coin: usize, way: Way) {
+    let nodes = linked(machine, if way == Way::Forward { CL } else { PR });
+    if nodes.is_empty() {
+        return;
+    }
+    let v = rng.pick(&nodes);
+    machine.record.qifv = v;
+    machine.record.regs[coin] = match way {
+        Way::Forward => u32::from(field(machine, field(machine, v, CL), LC) != v),
+        Way::Back => rng.below(2),
+    };
+}
+
+/// Sets registers and node so that a turn over the word at `at` is likely to
+/// be accepted; the table must be paired.
+pub fn aim(rng: &mut Rng, machine: &mut Machine, way: Way) {
+    let (k, m) = (machine.record.k, machine.record.m);
+    let at = rng.below(k);
+    let word = machine.mem[at as usize];
+    machine.record.qifw = 0;
+    machine.record.regs[BR] = if rng.chance(1, 3) { offset(rng) } else { 0 };
+    match decode(word) {
+        Some(Ldr { b, .. } | Fetr { b, .. }) if usize::from(b) != PC && m > k => {
+            machine.record.regs[usize::from(b)] = rng.between(k, m - 1);
+        }
+        Some(Qif { a }) if rng.chance(1, 2) => aim_wait(rng, machine, a.into()),
+        Some(Qif { a }) if way == Way::Forward => aim_qif(rng, machine, a.into()),
+        Some(Qif { a }) => aim_child(rng, machine, a.into()),
+        Some(Fiq { a }) => aim_fiq(rng, machine, a.into(), way),
+        Some(Swbr { a }) if rng.chance(1, 2) => machine.record.regs[usize::from(a)] = offset(rng),
+        _ => {}
+    }
+    let waits = machine.record.qifw > 0;
+    let br = machine.record.regs[BR];
+    machine.record.regs[PC] = if way == Way::Forward || waits {
+        at
+    } else {
+        at.wrapping_add(if br == 0 { 1 } else { br })
+    };
+}
+
+/// Noise in every word; the sizes fit in most cases so that more than their
+/// check is reached.
+pub fn noise(rng: &mut Rng) -> Machine {
+    let mem_len = rng.below(40) as usize;
+    let table_len = rng.below(60) as usize;
+    let mut record = Record {
+        regs: std::array::from_fn(|_| rng.word()),
+        qifv: rng.word(),
+        qifw: rng.word(),
+        k: rng.word(),
+        m: rng.word(),
+        n: rng.word(),
+    };
+    if rng.chance(7, 8) {
+        record.m = rng.between(0, mem_len as u32);
+        record.k = rng.between(0, record.m);
+        record.n = rng.between(0, (table_len / NODE) as u32);
+        record.regs[PC] = rng.below(record.k + 2);
+    }
+    Machine {
+        record,
+        mem: rng.words(mem_len),
+        table: rng.words(table_len),
+    }
+}
+
+/// A machine for a single turn in the given direction.
+pub fn for_turn(rng: &mut Rng, way: Way) -> Machine {
+    let kind = rng.below(16);
+    if kind == 0 {
+        return noise(rng);
+    }
+    let mut machine = valid(rng);
+    aim(rng, &mut machine, way);
+    if kind >= 8 {
+        for _ in 0..rng.between(1, 3) {
+            damage(rng, &mut machine);
+        }
+    }
+    machine
+}
+
+/// A machine for many turns, in the middle of its run.
+pub fn for_run(rng: &mut Rng, way: Way) -> Machine {
+    match rng.below(10) {
+        0 | 1 => for_turn(rng, way),
+        2 | 3 => {
+            let mut machine = structured::running(rng, 400);
+            damage(rng, &mut machine);
+            machine
+        }
+        _ => structured::running(rng, 2_000),
+    }
+}

@@ -1,0 +1,132 @@
+//! Tiny machines, all states from small sets of values: no two of them lead
+//! to the same state, forward or back, and what is reached leads back.
+
+use std::collections::HashMap;
+
+use crank_model::generate::{word_of, Machine, Way, KINDS, WAYS};
+use crank_model::instruction::{decode, word_i, word_r, Instruction, FINISH, START};
+use crank_model::machine::{Record, NODE};
+use crank_model::rng::{rounds, Rng};
+
+const R1: usize = 4;
+const R2: usize = 5;
+
+/// Nodes 1 to 3: a qif from 1 to 2 or 3 and back to 1, with waits 0 and 2.
+/// The broken one has both coins lead to node 2.
+fn table(broken: bool) -> Vec<u32> {
+    let other = if broken { 2 } else { 3 };
+    let nodes: [[u32; NODE]; 3] = [
+        [2, other, 2, other, 0, 0, 1, 1, 0],
+        [0, 0, 0, 0, 1, 1, 0, 0, 2],
+        [0, 0, 0, 0, 1, 1, 0, 0, 0],
+    ];
+    nodes.concat()
+}
+
+/// Keeps only r1, r2 and pc as the registers a word names.
+fn small_registers(word: u32) -> bool {
+    use Instruction::*;
+    let small = |reg: u8| [0, R1, R2].contains(&reg.into());
+    match decode(word) {
+        None => false,
+        Some(Bra { .. } | Start | Finish) => true,
+        Some(Ld { a, .. } | Xori { a, .. } | Addi { a, .. } | Subi { a, .. }) => small(a),
+        Some(Bez { a, .. } | Bnz { a, .. }) => small(a),
+        Some(Neg { a } | Swbr { a } | Qif { a } | Fiq { a } | UniFlip { a }) => small(a),
+        Some(_) => small(((word >> 20) & 15) as u8) && small(((word >> 16) & 15) as u8),
+    }
+}
+
+fn small_word(rng: &mut Rng, kind: (u32, u32)) -> u32 {
+    loop {
+        let word = word_of(rng, kind, 2, 3);
+        if kind.0 == 35 || small_registers(word) {
+            return word;
+        }
+    }
+}
+
+/// All states over small sets of values.
+fn states(code: [u32; 2], table: &[u32]) -> Vec<Machine> {
+    let mut all = Vec::new();
+    let uses_nodes = code.iter().any(|word| matches!(word >> 24, 24 | 25));
+    let nodes: &[u32] = if uses_nodes { &[0, 1, 2, 3, 4] } else { &[1] };
+    let waits: &[u32] = if uses_nodes { &[0, 1, 2, 3] } else { &[0, 1] };
+    let values = [0, 1, 2, u32::MAX];
+    for pc in [0, 1, 2, u32::MAX] {
+        for br in [0, 1, u32::MAX, 2] {
+            for (r1, r2) in values.iter().flat_map(|a| values.map(|b| (*a, b))) {
+                for (qifv, qifw) in nodes.iter().flat_map(|v| waits.iter().map(|w| (*v, *w))) {
+                    for data in [0, 1] {
+                        let mut record = Record {
+                            qifv,
+                            qifw,
+                            k: 2,
+                            m: 3,
+                            n: 3,
+                            ..Record::default()
+                        };
+                        record.regs[0] = pc;
+                        record.regs[1] = br;
+                        record.regs[R1] = r1;
+                        record.regs[R2] = r2;
+                        all.push(Machine {
+                            record,
+                            mem: vec![code[0], code[1], data],
+                            table: table.to_vec(),
+                        });
+                    }
+                }
+            }
+        }
+    }
+    all
+}
+
+/// Turns every state; gives the accepted ones.
+fn injective(way: Way, states: &[Machine]) -> usize {
+    let mut reached: HashMap<(Record, u32), usize> = HashMap::new();
+    for (i, start) in states.iter().enumerate() {
+        let mut m = start.clone();
+        let refusal = m.turn(way.model());
+        if refusal != 0 {
+            assert_eq!(m, *start);
+            continue;
+        }
+        if let Some(j) = reached.insert((m.record, m.mem[2]), i) {
+            panic!("{way:?}: {:?} and {start:?} lead to {m:?}", states[j]);
+        }
+        assert_eq!(m.turn(way.reverse().model()), 0, "{way:?} {start:?}");
+        assert_eq!(m, *start);
+    }
+    reached.len()
+}
+
+#[test]
+fn no_two_states_lead_to_the_same() {
+    let mut rng = Rng::new(51);
+    let mut accepted = [0usize; 2];
+    let mut machines = 0;
+    for _ in 0..rounds(6) {
+        for kind in KINDS {
+            let word = small_word(&mut rng, kind);
+            let others = [
+                START,
+                FINISH,
+                word_r(24, R1, 0),
+                word_i(5, 0, 1),
+                word_r(23, R2, 0),
+            ];
+            let other = rng.pick(&others);
+            for code in [[word, other], [other, word], [word, word]] {
+                let all = states(code, &table(rng.chance(1, 3)));
+                machines += 1;
+                for way in WAYS {
+                    accepted[way as usize] += injective(way, &all);
+                }
+            }
+        }
+    }
+    assert!(accepted.iter().all(|count| *count > 10_000));
+    println!("tiny: {machines} machines, accepted forward and back {accepted:?}");
+}
