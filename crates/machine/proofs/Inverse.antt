@@ -23,7 +23,7 @@ use Rattle.step.specs.State.{State, Words, Fits, reg, flip}
 use Rattle.step.specs.Step.{shifted, marked, written, stored, performed, refuse, attempt}
 use Rattle.step.proofs.Sized.{SameSizes, marked-sizes, written-long, stored-long}
 use Rattle.step.proofs.Undo.{Fair, Undone, undone, refused-no, inside, passed, set-back, words-set, shifted-word, shifted-back}
-use Rattle.machine.specs.Turn.{pc, br, atPc, stride, movedPc, fromPc, toPc, from, to, isCode, starts, finishes, calmly, badSizes, nextPc, landed, judged, executed, planned, turned}
+use Rattle.machine.specs.Turn.{pc, br, atPc, stride, movedPc, fromPc, toPc, from, to, isCode, starts, finishes, calmly, badSizes, nextPc, nextOf, landed, judged, executed, planned, turned}
 
 -- ---- pc's moves
 
@@ -145,7 +145,7 @@ landing e s g =
     getD-set-same (written e (s .regs) (s .memory)) 0 (nextPc Forward e s) 0 (rw (written-long e (s .regs) (s .memory), g .sixteen) (omega arith)) in
     rw (p, marked-sizes e (s .at) .k)
 
-landed-does : (s : State) (x : Attempt) {e : Effect} → Fits s → landed s x ≡ Does e → (starting (to Forward (performed e s)) (s .memory) ≡ false) × (x ≡ Does e)
+landed-does : (s : State) (x : Attempt) {e : Effect} → Fits s → landed s (nextOf Forward x s) x ≡ Does e → (starting (to Forward (performed e s)) (s .memory) ≡ false) × (x ≡ Does e)
 landed-does s (Refused n) g h = absurd (refused-no h)
 landed-does s (Does f) {e} g h =
     let p = passed (eqb (marked f (s .at) .qifw) 0 && starts (s .at) (s .memory) (nextPc Forward f s)) 18 _ h in

@@ -82,19 +82,24 @@ abbrev pub nextPc : Direction → Effect → State → ℕ
 nextPc d e s =
     toPc d (marked e (s .at) .qifw) (getD (written e (s .regs) (s .memory)) 0 0) (getD (written e (s .regs) (s .memory)) 1 0)
 
--- 18 where the new pc, if it moved, is at start; no effect writes a code word, so the memory before it serves
-abbrev pub landed : State → Attempt → Attempt
-landed s (Refused n) = Refused n
-landed s (Does e) = refuse (eqb (marked e (s .at) .qifw) 0 && starts (s .at) (s .memory) (nextPc Forward e s)) 18 (Does e)
+-- the same of an attempt, 0 where it is refused
+abbrev pub nextOf : Direction → Attempt → State → ℕ
+nextOf d (Refused n) s = 0
+nextOf d (Does e) s = nextPc d e s
 
--- old is pc before it shrank
-unfoldable pub judged : List ℕ → Direction → ℕ → State → Attempt → Attempt
-judged t Forward old s a =
+-- 18 where the new pc, if it moved, is at start; no effect writes a code word, so the memory before it serves
+abbrev pub landed : State → ℕ → Attempt → Attempt
+landed s new (Refused n) = Refused n
+landed s new (Does e) = refuse (eqb (marked e (s .at) .qifw) 0 && starts (s .at) (s .memory) new) 18 (Does e)
+
+-- old is pc before it shrank, new is pc after the effect and the move
+unfoldable pub judged : List ℕ → Direction → ℕ → ℕ → State → Attempt → Attempt
+judged t Forward old new s a =
     refuse (badSizes (s .at) (s .memory) t) 10
     (refuse (not (isCode (s .at) (pc s))) 11
     (refuse (finishes (s .memory) (pc s)) 12
-    (landed s a)))
-judged t Back old s a =
+    (landed s new a)))
+judged t Back old new s a =
     refuse (badSizes (s .at) (s .memory) t) 10
     (refuse (calmly (s .at) && starts (s .at) (s .memory) old) 12
     (refuse (not (isCode (s .at) (pc s))) 11
@@ -106,7 +111,8 @@ abbrev pub executed : List ℕ → Direction → State → Attempt
 executed t d s = attempt t d (decode (getD (s .memory) (pc s) 0)) s
 
 abbrev pub planned : List ℕ → Direction → State → Attempt
-planned t d s = judged t d (pc s) (from d s) (executed t d (from d s))
+planned t d s =
+    judged t d (pc s) (nextOf d (executed t d (from d s)) (from d s)) (from d s) (executed t d (from d s))
 
 -- 0 is no refusal
 abbrev pub number : Attempt → ℕ

@@ -4,11 +4,11 @@ ghost use mathlib.Core.Path.{_≡_};
 ghost use mathlib.Core.Bool.{not, _&&_};
 ghost use mathlib.Core.List.{_++_};
 ghost use lib.Dec.{eqb};
-ghost use lib.ListN.{take, drop, length, getD};
+ghost use lib.ListN.{take, drop, set};
 ghost use Rattle.step.specs.State.{State, seen, nodes, reg};
-ghost use Rattle.step.specs.Step.{marked, performed};
+ghost use Rattle.step.specs.Step.{marked, written, stored, performed};
 ghost use Rattle.step.specs.declared.Direction.{Direction};
-ghost use Rattle.machine.specs.Turn.{movedPc, fromPc, from, to, starts, finishes, badSizes, nextPc, landed, judged, executed, planned, number, turned};
+ghost use Rattle.machine.specs.Turn.{movedPc, fromPc, toPc, from, to, starts, finishes, badSizes, nextOf, landed, judged, executed, planned, number, turned};
 use crate::Record;
 use step::Attempt;
 use step::Direction;
@@ -41,31 +41,37 @@ fn moved_pc(d: Direction, wait: u32, pc: u32, br: u32) -> u32
     )
 }
 
-// pc as the operation finds it: back, it has shrunk.
-fn from_pc(d: Direction, at: Status, regs: &[u32]) -> u32
-    ensures { λ r. ⌜ r ≡ fromPc d (at .qifw) (getD (now (regs .entry)) 0 0) (getD (now (regs .entry)) 1 0) ⌝ }
+// pc as the operation finds it: back, it has shrunk; and as it is after the effect: forward, it moves on.
+fn from_pc(d: Direction, wait: u32, pc: u32, br: u32) -> u32
+    ensures { λ r. ⌜ r ≡ fromPc d wait pc br ⌝ }
 {
-    let pc = look(regs, 0);
     match d {
         Direction::Forward => pc,
-        Direction::Back => moved_pc(Direction::Back, at.qifw, pc, look(regs, 1)),
+        Direction::Back => moved_pc(Direction::Back, wait, pc, br),
     }
 }
 
-// pc after the effect and, forward, the move on.
-fn next_pc(d: Direction, e: Effect, at: Status, regs: &[u32], mem: &[u32]) -> u32
-    ensures { λ r. ⌜ r ≡ nextPc d e (seen at (now (regs .entry)) (now (mem .entry))) ⌝ }
+fn to_pc(d: Direction, wait: u32, pc: u32, br: u32) -> u32
+    ensures { λ r. ⌜ r ≡ toPc d wait pc br ⌝ }
 {
-    let then = status_after(e, at);
-    let pc = after(e, regs, mem, at.m, 0);
     match d {
-        Direction::Forward => moved_pc(
-            Direction::Forward,
-            then.qifw,
-            pc,
-            after(e, regs, mem, at.m, 1),
-        ),
+        Direction::Forward => moved_pc(Direction::Forward, wait, pc, br),
         Direction::Back => pc,
+    }
+}
+
+// pc after the attempt's effect and, forward, the move on.
+fn next_pc(d: Direction, a: Attempt, at: Status, regs: &[u32], mem: &[u32]) -> u32
+    ensures { λ r. ⌜ r ≡ nextOf d a (seen at (now (regs .entry)) (now (mem .entry))) ⌝ }
+{
+    match a {
+        Attempt::Refused(_n) => 0,
+        Attempt::Does(e) => {
+            let then = status_after(e, at);
+            let pc = after(e, regs, mem, at.m, 0);
+            let br = after(e, regs, mem, at.m, 1);
+            to_pc(d, then.qifw, pc, br)
+        }
     }
 }
 
@@ -90,38 +96,38 @@ fn is_start(at: Status, mem: &[u32], i: u32) -> bool
     word::both(i < at.k, word_at(mem, at.m, i) == qins::START)
 }
 
-fn land(a: Attempt, at: Status, regs: &[u32], mem: &[u32]) -> Attempt
-    ensures { λ r. ⌜ r ≡ landed (seen at (now (regs .entry)) (now (mem .entry))) a ⌝ }
+fn land(a: Attempt, new: u32, at: Status, regs: &[u32], mem: &[u32]) -> Attempt
+    ensures { λ r. ⌜ r ≡ landed (seen at (now (regs .entry)) (now (mem .entry))) new a ⌝ }
 {
     match a {
         Attempt::Refused(n) => Attempt::Refused(n),
         Attempt::Does(e) => {
             let then = status_after(e, at);
-            let next = next_pc(Direction::Forward, e, at, regs, mem);
-            let bad = word::both(then.qifw == 0, is_start(at, mem, next));
+            let bad = word::both(then.qifw == 0, is_start(at, mem, new));
             refused_if(bad, 18, Attempt::Does(e))
         }
     }
 }
 
-// The refusals around the word's own attempt a; old is pc before it shrank.
+// The refusals around the word's own attempt a; old is pc before it shrank, new is pc after the turn.
 fn judge(
     d: Direction,
     old: u32,
+    new: u32,
     a: Attempt,
     at: Status,
     regs: &[u32],
     mem: &[u32],
     table: &[u32],
 ) -> Attempt
-    ensures { λ r. ⌜ r ≡ judged (nodes at (now (table .entry))) d old (seen at (now (regs .entry)) (now (mem .entry))) a ⌝ }
+    ensures { λ r. ⌜ r ≡ judged (nodes at (now (table .entry))) d old new (seen at (now (regs .entry)) (now (mem .entry))) a ⌝ }
 {
     let sizes = are_bad_sizes(at, mem, table);
     let pc = look(regs, 0);
     let finish = word_at(mem, at.m, pc) == qins::FINISH;
     match d {
         Direction::Forward => {
-            let b = refused_if(finish, 12, land(a, at, regs, mem));
+            let b = refused_if(finish, 12, land(a, new, at, regs, mem));
             refused_if(sizes, 10, refused_if(!(pc < at.k), 11, b))
         }
         Direction::Back => {
@@ -143,27 +149,37 @@ fn execute(d: Direction, at: Status, regs: &[u32], mem: &[u32], table: &[u32]) -
     attempt(d, qins::decode_word(w), at, regs, mem, table)
 }
 
+// What a turn is to do, and pc after it.
+struct Planned {
+    attempt: Attempt,
+    next: u32,
+}
+
 // Leaves the registers as the operation finds them.
-fn plan(d: Direction, at: Status, regs: &mut [u32], mem: &[u32], table: &[u32]) -> Attempt
+fn plan(d: Direction, at: Status, regs: &mut [u32], mem: &[u32], table: &[u32]) -> Planned
     ensures { λ r.
-        ⌜ (r ≡ planned (nodes at (now (table .entry))) d (seen at (now (regs .entry)) (now (mem .entry))))
+        ⌜ (r .attempt ≡ planned (nodes at (now (table .entry))) d (seen at (now (regs .entry)) (now (mem .entry))))
+        × (r .next ≡ nextOf d (executed (nodes at (now (table .entry))) d (from d (seen at (now (regs .entry)) (now (mem .entry))))) (from d (seen at (now (regs .entry)) (now (mem .entry)))))
         × (now (regs .exit) ≡ from d (seen at (now (regs .entry)) (now (mem .entry))) .regs) ⌝ }
 {
     let old = look(regs, 0);
-    let pc = from_pc(d, at, regs);
+    let pc = from_pc(d, at.qifw, old, look(regs, 1));
     put(regs, 0, pc);
     let a = execute(d, at, regs, mem, table);
-    judge(d, old, a, at, regs, mem, table)
+    let next = next_pc(d, a, at, regs, mem);
+    Planned {
+        attempt: judge(d, old, next, a, at, regs, mem, table),
+        next,
+    }
 }
 
 // The memory is written here alone, when no refusal is left.
-fn perform(d: Direction, e: Effect, at: Status, regs: &mut [u32], mem: &mut [u32])
+fn perform(e: Effect, next: u32, m: u32, regs: &mut [u32], mem: &mut [u32])
     ensures { λ _.
-        ⌜ (now (regs .exit) ≡ to d (performed e (seen at (now (regs .entry)) (now (mem .entry)))) .regs)
-        × (now (mem .exit) ≡ performed e (seen at (now (regs .entry)) (now (mem .entry))) .memory ++ drop (at .m) (now (mem .entry))) ⌝ }
+        ⌜ (now (regs .exit) ≡ set (written e (now (regs .entry)) (take m (now (mem .entry)))) 0 next)
+        × (now (mem .exit) ≡ stored e (now (regs .entry)) (take m (now (mem .entry))) ++ drop m (now (mem .entry))) ⌝ }
 {
-    let next = next_pc(d, e, at, regs, mem);
-    apply(e, regs, mem, at.m);
+    apply(e, regs, mem, m);
     put(regs, 0, next);
 }
 
@@ -175,14 +191,16 @@ pub fn turn(d: Direction, at: Status, regs: &mut [u32], mem: &mut [u32], table: 
         × (now (mem .exit) ≡ turned d (planned (nodes at (now (table .entry))) d (seen at (now (regs .entry)) (now (mem .entry)))) (seen at (now (regs .entry)) (now (mem .entry))) .memory ++ drop (at .m) (now (mem .entry))) ⌝ }
 {
     let old = look(regs, 0);
-    let a = plan(d, at, regs, mem, table);
+    let p = plan(d, at, regs, mem, table);
+    let next = p.next;
+    let a = p.attempt;
     match a {
         Attempt::Refused(n) => {
             put(regs, 0, old);
             Stepped { refusal: n, at }
         }
         Attempt::Does(e) => {
-            perform(d, e, at, regs, mem);
+            perform(e, next, at.m, regs, mem);
             Stepped {
                 refusal: 0,
                 at: status_after(e, at),

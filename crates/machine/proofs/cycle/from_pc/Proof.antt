@@ -6,6 +6,5 @@ pub from-pc-spec : {M : Type 1} → statement M
 from-pc-spec =
     tie.close
     (tie.spec
-    (λ c κs. search needs) (λ c. search needs) (λ c. search needs) (λ c κs. search needs) (λ c κs. search needs)
-    (λ c. rw (c .enum-told .given .1) (simp (c .before .before .look .ensures)))
-    (λ c. rw (c .before .before .enum-told2 .given .1) (simp (c .moved-pc .ensures, c .before .look2 .ensures, c .before .before .before .before .look .ensures))))
+    (λ c. search needs) (λ c. search needs) (λ c κs. search needs) (λ c. rw (c .enum-told .given .1))
+    (λ c. rw (c .before .enum-told2 .given .1) (simp (c .moved-pc .ensures))))

@@ -10,7 +10,7 @@ pub perform-spec : {M : Type 1} → statement M
 perform-spec =
     tie.close
     (tie.spec
-    (λ c κs. search needs) (λ c κs. search needs) (λ c κs. search needs)
-    (λ c. let g = c .before .before .before .before .before .before .before .before .before .before .before .before .before .before .before .before .args in ap length (c .before .before .put .ensures) ∙ simp length-set (ap length (c .before .before .before .before .before .before .before .before .apply .ensures .0) ∙ written-long (g .e) (now (g .regs)) (take (g .at .m) (now (g .mem)))))
-    (λ c. let g = c .before .before .before .before .before .before .before .before .before .before .before .before .before .before .before .before .args in ap length (c .before .before .before .before .before .before .before .before .apply .ensures .1) ∙ lent-long (g .e) (now (g .regs)) (now (g .mem)) (g .at .m))
-    (λ c. (simp (c .before .before .put .ensures, c .before .before .before .before .before .before .before .before .apply .ensures .0, c .before .before .before .before .before .before .before .before .before .before .before .next-pc .ensures), c .before .before .before .before .before .before .before .before .apply .ensures .1)))
+    (λ c κs. search needs) (λ c κs. search needs)
+    (λ c. ap length (c .before .before .put .ensures) ∙ simp length-set (ap length (c .before .before .before .before .before .before .before .before .apply .ensures .0) ∙ simp written-long))
+    (λ c. ap length (c .before .before .before .before .before .before .before .before .apply .ensures .1) ∙ simp lent-long)
+    (λ c. (simp (c .before .before .put .ensures, c .before .before .before .before .before .before .before .before .apply .ensures .0), c .before .before .before .before .before .before .before .before .apply .ensures .1)))

@@ -9,8 +9,10 @@ plan-spec =
     tie.close
     (tie.spec
     (λ c κs. search needs) (λ c κs. search needs) (λ c κs. search needs) (λ c κs. search needs) (λ c κs. search needs)
-    (λ c. ap length (c .before .before .before .before .before .before .put .ensures) ∙ simp length-set)
+    (λ c κs. search needs) (λ c κs. search needs)
+    (λ c. ap length (c .before .before .before .before .before .before .before .before .put .ensures) ∙ simp length-set)
     (λ c. (
-      simp (c .judge .ensures, c .before .before .execute .ensures, c .before .before .before .before .before .before .put .ensures, c .before .before .before .before .before .before .before .before .from-pc .ensures, c .before .before .before .before .before .before .before .before .before .before .look .ensures),
-      simp (c .before .before .before .before .before .before .put .ensures, c .before .before .before .before .before .before .before .before .from-pc .ensures),
+      c .judge .ensures ∙ rw (c .before .before .next-pc .ensures, c .before .before .before .before .execute .ensures, c .before .before .before .before .before .before .before .before .put .ensures, c .before .before .before .before .before .before .before .before .before .before .from-pc .ensures, c .before .before .before .before .before .before .before .before .before .before .before .look2 .ensures, c .before .before .before .before .before .before .before .before .before .before .before .before .before .look .ensures),
+      c .before .before .next-pc .ensures ∙ rw (c .before .before .before .before .execute .ensures, c .before .before .before .before .before .before .before .before .put .ensures, c .before .before .before .before .before .before .before .before .before .before .from-pc .ensures, c .before .before .before .before .before .before .before .before .before .before .before .look2 .ensures, c .before .before .before .before .before .before .before .before .before .before .before .before .before .look .ensures),
+      c .before .before .before .before .before .before .before .before .put .ensures ∙ rw (c .before .before .before .before .before .before .before .before .before .before .from-pc .ensures, c .before .before .before .before .before .before .before .before .before .before .before .look2 .ensures, c .before .before .before .before .before .before .before .before .before .before .before .before .before .look .ensures),
     )))
