@@ -3,3 +3,4 @@ pub mod Inverse
 pub mod Sure
 pub mod Claims
 pub mod Runs
+pub mod Marks

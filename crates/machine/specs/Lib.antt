@@ -2,3 +2,4 @@ pub mod Turn
 pub mod Calls
 pub mod Claims
 pub mod Batch
+pub mod Marks

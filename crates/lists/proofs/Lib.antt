@@ -1,0 +1,2 @@
+pub mod Reversible
+pub mod Lists

@@ -1,0 +1,166 @@
+-- Left and Right. Assumes nothing.
+use mathlib.Core.Path.{_≡_, refl, sym, ap, ap₂, _∙_, subst}
+use mathlib.Core.Bool.{Bool, true, false}
+use mathlib.Core.List.{List, _++_}
+use Prim.Native.Nat.{ℕ, zero, suc, _+_, _-_, _*_, _<_, _≤_}
+use native.Mathlib.Omega.{arith}
+use native.Mathlib.Decide.{decLe}
+use lib.Dec.{eqb}
+use lib.ListN.{take, drop}
+use borrow.Author.Tests.{eqb-true, eqb-false}
+use Rattle.word.specs.Word.{pick}
+use Rattle.step.specs.declared.Direction.{Direction}
+use Rattle.step.specs.declared.Direction.the-variants.{Forward, Back}
+use Rattle.step.specs.declared.Attempt.{Attempt}
+use Rattle.step.specs.State.{State, seen}
+use Rattle.machine.specs.Turn.{planned, number, turned}
+use Rattle.machine.specs.Calls.{Machine, machineOf, statusOf, recordOf, stateOf, planOf, stateAfter, turnOf, memoryOf, refusal, next, Leads}
+use Rattle.machine.specs.Batch.{after, Count, CountOf, batchOf, batchMemory}
+use Rattle.machine.specs.Claims.{Fitting}
+use Rattle.machine.specs.declared.Record.{Record}
+use Rattle.machine.specs.declared.Turned.{Turned}
+use Rattle.machine.specs.declared.Batch.{Batch}
+use Rattle.machine.proofs.Claims.{next-sizes, next-view, next-excess, refused-keeps, turn-home}
+use Rattle.lists.specs.Lists.{Call, Left, Straight, Alike, AlikeTables, Right, LeftAndRight}
+use Rattle.lists.specs.Lists.Call.{single, batch}
+use Rattle.lists.specs.Lists.Left.{empty, then-forward, then-back}
+use Rattle.lists.specs.Lists.Straight.{none, turn}
+use Rattle.lists.proofs.Reversible as R
+
+module _ (table : List ℕ) where
+  abbrev Accepts : Direction → Machine → Type 0
+  Accepts d x = refusal table d x ≡ 0
+
+  abbrev Runs : Direction → ℕ → Machine → Machine → Type 0
+  Runs = R.Runs Machine Accepts (next table)
+
+  abbrev Tour : ℕ → ℕ → Machine → Machine → Type 0
+  Tour = R.Tour Machine Accepts (next table)
+
+  -- ---- each call is a run of its accepted turns
+
+  one-run : (d : Direction) (x : Machine) (b : Bool) → eqb (refusal table d x) 0 ≡ b → Runs d (pick b 1 0) x (next table d x)
+  one-run d x true e = (eqb-true _ _ e, refl)
+  one-run d x false e = sym (refused-keeps table d x (eqb-false _ _ e))
+
+  many-run : (d : Direction) (k : ℕ) (x : Machine) → ((j : ℕ) → j < k → refusal table d (after table d j x) ≡ 0) → Runs d k x (after table d k x)
+  unfolding after
+  many-run d zero x h = refl
+  many-run d (suc k) x h = (h 0 (omega arith), many-run d k (next table d x) (λ j l. h (suc j) (omega arith)))
+
+  call-run : {x y : Machine} {d : Direction} {k : ℕ} → Call table x d k y → Runs d k x y
+  call-run (single d x a mem p q) =
+      let e : machineOf (a .state) mem ≡ next table d x = λ j. machineOf (p j .state) (q j) in
+      subst (Runs d (pick (eqb (a .refusal) 0) 1 0) x) (sym e)
+      (subst (λ (w : ℕ). Runs d (pick (eqb w 0) 1 0) x (next table d x)) (sym (ap (λ (t : Turned). t .refusal) p))
+      (one-run d x (eqb (refusal table d x) 0) refl))
+  call-run (batch d n x a mem c p q) =
+      let e : machineOf (a .state) mem ≡ after table d (a .turns) x = λ j. machineOf (p j .state) (q j) in
+      subst (Runs d (a .turns) x) (sym e) (many-run d (a .turns) x (c .accepted))
+
+  tour : {x y : Machine} {f b : ℕ} → Left table x f b y → Tour f b x y
+  tour empty = R.Tour.empty
+  tour (then-forward {k = k} l c) = R.Tour.then-forward k (tour l) (call-run c)
+  tour (then-back {k = k} l c) = R.Tour.then-back k (tour l) (call-run c)
+
+-- ---- the same turns on Right's own lent words
+
+module _ (table other : List ℕ) (d : Direction) where
+  -- what a turn reads is shared, so it plans the same, and each keeps its excess
+  module _ (x y : Machine) (a : Alike x y) (t : AlikeTables x table other) where
+    same-state : stateOf (y .state) (y .memory) ≡ stateOf (x .state) (x .memory)
+    same-state =
+        ap (λ (r : Record). stateOf r (y .memory)) (a .state)
+        ∙ ap (λ (l : List ℕ). record { at = statusOf (x .state); regs = x .state .regs; memory = l }) (a .memory)
+
+    same-nodes : take (9 * y .state .n) other ≡ take (9 * x .state .n) table
+    same-nodes = ap (λ (r : Record). take (9 * r .n) other) (a .state) ∙ t
+
+    same-plan : planOf d (y .state) (y .memory) other ≡ planOf d (x .state) (x .memory) table
+    same-plan = ap₂ (λ (l : List ℕ) (s : State). planned l d s) same-nodes same-state
+
+    same-after : stateAfter d (y .state) (y .memory) other ≡ stateAfter d (x .state) (x .memory) table
+    same-after = ap₂ (turned d) same-plan same-state
+
+    same-m : y .state .m ≡ x .state .m
+    same-m = ap (λ (r : Record). r .m) (a .state)
+
+    alike-next : Alike (next table d x) (next other d y)
+    alike-next =
+        record {
+          state = ap (λ (s : State). recordOf (s .at) (s .regs)) same-after;
+          memory =
+              rw (next-sizes table d x .m)
+              (subst (λ (m : ℕ). take m (next other d y .memory) ≡ stateAfter d (y .state) (y .memory) other .memory) same-m (next-view other d y)
+              ∙ (ap (λ (s : State). s .memory) same-after ∙ sym (next-view table d x)));
+        }
+
+    tables-next : AlikeTables (next table d x) table other
+    tables-next = rw (next-sizes table d x .n) t
+
+  -- where a run ends on Right's words
+  record Follows (k : ℕ) (x z y : Machine) : Type 0 where
+    end : Machine
+    straight : Straight other d k y end
+    alike : Alike z end
+    tables : AlikeTables z table other
+    excess : drop (x .state .m) (end .memory) ≡ drop (x .state .m) (y .memory)
+
+  follow : (k : ℕ) (x z y : Machine) → Alike x y → AlikeTables x table other → Runs table d k x z → Follows k x z y
+  follow zero x z y a t e =
+      subst (λ (u : Machine). Follows 0 x u y) e (record { end = y; straight = none; alike = a; tables = t; excess = refl })
+  follow (suc k) x z y a t r =
+      let f = follow k (next table d x) z (next other d y) (alike-next x y a t) (tables-next x y a t) (r .1) in
+      let w : refusal other d y ≡ 0 = ap number (same-plan x y a t) ∙ r .0 in
+      let m = next-sizes table d x .m in
+      record {
+        end = f .end;
+        straight = turn (w, refl) (f .straight);
+        alike = f .alike;
+        tables = f .tables;
+        excess =
+            subst (λ (n : ℕ). drop n (f .end .memory) ≡ drop n (next other d y .memory)) m (f .excess)
+            ∙ subst (λ (n : ℕ). drop n (next other d y .memory) ≡ drop n (y .memory)) (same-m x y a t) (next-excess other d y);
+      }
+
+-- ---- the claim
+
+-- no turns are no turns the other way
+still : {other : List ℕ} {d d′ : Direction} {k : ℕ} (j : ℕ) {x y : Machine} → Straight other d k x y → k ≡ 0 → j ≡ 0 → Straight other d′ j x y
+still {other} {d′ = d′} j {x} none e z = subst (λ (n : ℕ). Straight other d′ n x x) (sym z) none
+still j (turn l s) e z = absurd (omega arith)
+
+pub left-and-right : LeftAndRight
+left-and-right table other x y right f b g a t l = go (decLe b f)
+  where
+    net : R.Net Machine (Accepts table) (next table) Forward f b x y
+    net = R.net Machine (Accepts table) (next table) Fitting (turn-home table) (tour table l) g
+
+    m : right .state .m ≡ x .state .m
+    m = ap (λ (r : Record). r .m) (a .state)
+
+    own : (end : Machine) → drop (x .state .m) (end .memory) ≡ drop (x .state .m) (right .memory)
+        → drop (right .state .m) (end .memory) ≡ drop (right .state .m) (right .memory)
+    own end e = rw m e
+
+    go : Dec (b ≤ f) → Right table other right f b y
+    go (yes h) =
+        let r = follow table other Forward (f - b) x y right a t (net .ahead h) in
+        record {
+          machine = r .end;
+          ahead = λ q. r .straight;
+          behind = λ q. still (b - f) (r .straight) (omega arith) (omega arith);
+          alike = r .alike;
+          tables = r .tables;
+          excess = own (r .end) (r .excess);
+        }
+    go (no h) =
+        let r = follow table other Back (b - f) x y right a t (net .behind (omega arith)) in
+        record {
+          machine = r .end;
+          ahead = λ q. absurd (h q);
+          behind = λ q. r .straight;
+          alike = r .alike;
+          tables = r .tables;
+          excess = own (r .end) (r .excess);
+        }

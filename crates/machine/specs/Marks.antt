@@ -1,0 +1,93 @@
+-- Document 01's twelve bench marks, as one table of turns under one statement. Proved in proofs/Marks.
+use Prim.Native.Nat.{ℕ}
+use mathlib.Core.Path.{_≡_}
+use mathlib.Core.List.{List, [], _∷_}
+use lib.ListN.{getD}
+use Rattle.step.specs.declared.Direction.{Direction}
+use Rattle.step.specs.declared.Direction.the-variants.{Forward, Back}
+use Rattle.machine.specs.Calls.{Machine, refusal, next}
+use Rattle.machine.specs.Batch.{after}
+
+-- a turn that is looked at, after some that are only made, and what it shows
+pub record Mark : Type 0 where
+  pub way : Direction
+  pub before : ℕ
+  pub machine : Machine
+  pub table : List ℕ
+  pub shows : List ℕ
+
+-- the turn's refusal; then pc, br, r1, r2, qifv and qifw after it, and the memory
+abbrev pub observed : Direction → List ℕ → Machine → List ℕ
+observed d table x =
+    let r = next table d x .state in
+    refusal table d x ∷ getD (r .regs) 0 0 ∷ getD (r .regs) 1 0 ∷ getD (r .regs) 4 0 ∷ getD (r .regs) 5 0 ∷ r .qifv ∷ r .qifw ∷ next table d x .memory
+
+-- The statement: every row shows what it says
+abbrev pub Hold : List Mark → Type 0
+Hold [] = Unit {0}
+Hold (m ∷ rest) = (observed (m .way) (m .table) (after (m .table) (m .way) (m .before) (m .machine)) ≡ m .shows) × Hold rest
+
+-- pc, br, r1 and r2; r3 is 0; the node; K; the memory, of M words; N
+abbrev pub at : ℕ → ℕ → ℕ → ℕ → ℕ → ℕ → ℕ → ℕ → List ℕ → Machine
+at pc br a b node k m n l =
+    record {
+      state =
+          record {
+            regs = pc ∷ br ∷ 0 ∷ 0 ∷ a ∷ b ∷ 0 ∷ 0 ∷ 0 ∷ 0 ∷ 0 ∷ 0 ∷ 0 ∷ 0 ∷ 0 ∷ 0 ∷ [];
+            qifv = node;
+            qifw = 0;
+            k = k;
+            m = m;
+            n = n;
+          };
+      memory = l;
+    }
+
+-- a row with no table: the direction, the machine, what it shows
+abbrev pub row : Direction → Machine → List ℕ → Mark
+row d x l = record { way = d; before = 0; machine = x; table = []; shows = l }
+
+-- node 1, whose first child for coin 1 is node 2, which waits 2 cycles
+abbrev pub waits : List ℕ
+waits = 0 ∷ 2 ∷ 0 ∷ 0 ∷ 0 ∷ 0 ∷ 0 ∷ 0 ∷ 0 ∷ 0 ∷ 0 ∷ 0 ∷ 0 ∷ 1 ∷ 0 ∷ 0 ∷ 0 ∷ 2 ∷ []
+
+-- qif(r1) with coin 1 at node 1, after some turns
+abbrev pub waiting : ℕ → List ℕ → Mark
+waiting before l = record { way = Forward; before = before; machine = at 0 0 1 0 1 1 1 2 (0x18400000 ∷ []); table = waits; shows = l }
+
+-- nine words, of which the eighth is at pc 7
+abbrev pub atSeven : ℕ → List ℕ
+atSeven w = 0 ∷ 0 ∷ 0 ∷ 0 ∷ 0 ∷ 0 ∷ 0 ∷ w ∷ 0 ∷ []
+
+abbrev pub marks : List Mark
+marks =
+    -- (a) 0x02400005 is xori r1,5
+    row Forward (at 0 0 1 0 0 1 1 0 (0x02400005 ∷ [])) (0 ∷ 1 ∷ 0 ∷ 4 ∷ 0 ∷ 0 ∷ 0 ∷ 0x02400005 ∷ [])
+    -- (b) add(r1,r2) goes on at 0 after the largest word
+    ∷ row Forward (at 0 0 4294967295 1 0 1 1 0 (0x14450000 ∷ [])) (0 ∷ 1 ∷ 0 ∷ 0 ∷ 1 ∷ 0 ∷ 0 ∷ 0x14450000 ∷ [])
+    -- (c) 0x14440000 is no instruction
+    ∷ row Forward (at 0 0 3 3 0 1 1 0 (0x14440000 ∷ [])) (13 ∷ 0 ∷ 0 ∷ 3 ∷ 3 ∷ 0 ∷ 0 ∷ 0x14440000 ∷ [])
+    -- (d) pc 7, br 0 goes to 8
+    ∷ row Forward (at 7 0 0 0 0 9 9 0 (atSeven 0x1A000000)) (0 ∷ 8 ∷ 0 ∷ 0 ∷ 0 ∷ 0 ∷ 0 ∷ atSeven 0x1A000000)
+    -- (e) pc 7, br 4,294,967,294 goes to 5
+    ∷ row Forward (at 7 4294967294 0 0 0 9 9 0 (atSeven 0x1A000000)) (0 ∷ 5 ∷ 4294967294 ∷ 0 ∷ 0 ∷ 0 ∷ 0 ∷ atSeven 0x1A000000)
+    -- (f) 0x0500FFFE makes br 0 into 4,294,967,294
+    ∷ row Forward (at 7 0 0 0 0 9 9 0 (atSeven 0x0500FFFE)) (0 ∷ 5 ∷ 4294967294 ∷ 0 ∷ 0 ∷ 0 ∷ 0 ∷ atSeven 0x0500FFFE)
+    -- (g) bez with 0 xors, with 1 doesn't
+    ∷ row Forward (at 7 0 0 0 0 9 9 0 (atSeven 0x0640FFFE)) (0 ∷ 5 ∷ 4294967294 ∷ 0 ∷ 0 ∷ 0 ∷ 0 ∷ atSeven 0x0640FFFE)
+    ∷ row Forward (at 7 0 1 0 0 9 9 0 (atSeven 0x0640FFFE)) (0 ∷ 8 ∷ 0 ∷ 1 ∷ 0 ∷ 0 ∷ 0 ∷ atSeven 0x0640FFFE)
+    -- (h) ld at K-1 and M: 15; at K, below M: done
+    ∷ row Forward (at 0 0 9 0 0 2 3 0 (0x01400001 ∷ 0 ∷ 6 ∷ [])) (15 ∷ 0 ∷ 0 ∷ 9 ∷ 0 ∷ 0 ∷ 0 ∷ 0x01400001 ∷ 0 ∷ 6 ∷ [])
+    ∷ row Forward (at 0 0 9 0 0 2 3 0 (0x01400003 ∷ 0 ∷ 6 ∷ [])) (15 ∷ 0 ∷ 0 ∷ 9 ∷ 0 ∷ 0 ∷ 0 ∷ 0x01400003 ∷ 0 ∷ 6 ∷ [])
+    ∷ row Forward (at 0 0 9 0 0 2 3 0 (0x01400002 ∷ 0 ∷ 6 ∷ [])) (0 ∷ 1 ∷ 0 ∷ 6 ∷ 0 ∷ 0 ∷ 0 ∷ 0x01400002 ∷ 0 ∷ 9 ∷ [])
+    -- (i) 7 divided by 0 gives 0: arib(r1,r2,r3,3)
+    ∷ row Forward (at 0 0 0 7 0 1 1 0 (0x23456300 ∷ [])) (0 ∷ 1 ∷ 0 ∷ 0 ∷ 7 ∷ 0 ∷ 0 ∷ 0x23456300 ∷ [])
+    -- (j) qif into w = 2 takes three turns
+    ∷ waiting 0 (0 ∷ 0 ∷ 0 ∷ 1 ∷ 0 ∷ 2 ∷ 2 ∷ 0x18400000 ∷ [])
+    ∷ waiting 1 (0 ∷ 0 ∷ 0 ∷ 1 ∷ 0 ∷ 2 ∷ 1 ∷ 0x18400000 ∷ [])
+    ∷ waiting 2 (0 ∷ 1 ∷ 0 ∷ 1 ∷ 0 ∷ 2 ∷ 0 ∷ 0x18400000 ∷ [])
+    -- (k) back at start, qifw 0: 12
+    ∷ row Back (at 0 0 0 0 0 1 1 0 (0x1A000000 ∷ [])) (12 ∷ 0 ∷ 0 ∷ 0 ∷ 0 ∷ 0 ∷ 0 ∷ 0x1A000000 ∷ [])
+    -- (l) coin 2: 16
+    ∷ row Forward (at 0 0 2 0 1 1 1 0 (0x18400000 ∷ [])) (16 ∷ 0 ∷ 0 ∷ 2 ∷ 0 ∷ 1 ∷ 0 ∷ 0x18400000 ∷ [])
+    ∷ []
