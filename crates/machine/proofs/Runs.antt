@@ -100,10 +100,8 @@ module _ (table : List ℕ) (d : Direction) (n : ℕ) (at₀ : Status) (regs₀ 
     abbrev y : Machine
     y = machineOf (recordOf at regs) mem
 
-    pub done : n ≤ i → (r : Record) → r ≡ recordOf at regs → Left i 0 r mem
-    done h r e =
-        let l = ended table d n x y i (inv .run) h in
-        (l .0, l .1, ap (λ (z : Record). machineOf z mem) e ∙ l .2)
+    pub done : n ≤ i → Left i 0 (recordOf at regs) mem
+    done h = ended table d n x y i (inv .run) h
 
     -- a turn in place, as its contract has it
     module _ (w : ℕ) (at′ : Status) (regs′ mem′ : List ℕ)
@@ -125,18 +123,19 @@ module _ (table : List ℕ) (d : Direction) (n : ℕ) (at₀ : Status) (regs₀ 
                 ∙ (turned-regs d (planOf d (recordOf at regs) mem table) (stateOf (recordOf at regs) mem) ∙ inv .sixteen);
           }
 
-      pub stop : i < n → w ≢ 0 → (r : Record) → r ≡ recordOf at′ regs′ → Left i w r mem′
-      stop h z r e =
+      pub stop : i < n → w ≢ 0 → Left i w (recordOf at′ regs′) mem′
+      stop h z =
           let l = stopped table d n x y i (inv .run) h (λ q. z (f .0 ∙ q)) in
-          (l .0, f .0 ∙ l .1, ap (λ (u : Record). machineOf u mem′) e ∙ (sym stepped ∙ l .2))
+          (l .0, f .0 ∙ l .1, sym stepped ∙ l .2)
 
--- the contract's three parts, from a way out
-pub answered : (d : Direction) (n : ℕ) (at : Status) (r : Record) (mem table : List ℕ) (k w : ℕ) (r′ : Record) (mem′ : List ℕ) → at ≡ statusOf r
-    → Left table d n at (r .regs) mem k w r′ mem′
-    → CountOf d n r mem table k × (record { turns = k; refusal = w; state = r′ } ≡ batchOf d n k r mem table) × (mem′ ≡ batchMemory d k r mem table)
-answered d n at r mem table k w r′ mem′ e h =
+-- the contract's three parts, from a way out and the answer given there
+pub answered : (d : Direction) (n : ℕ) (at : Status) (r : Record) (mem table : List ℕ) (k w : ℕ) (r′ : Record) (mem′ : List ℕ) (b : Batch)
+    → at ≡ statusOf r → Left table d n at (r .regs) mem k w r′ mem′ → b ≡ record { turns = k; refusal = w; state = r′ }
+    → CountOf d n r mem table (b .turns) × (b ≡ batchOf d n (b .turns) r mem table) × (mem′ ≡ batchMemory d (b .turns) r mem table)
+answered d n at r mem table k w r′ mem′ b e h p =
     let g = subst (λ (a : Status). Left table d n a (r .regs) mem k w r′ mem′) e h in
-    (g .0, λ j. record { turns = k; refusal = g .1 j; state = g .2 j .state }, ap (λ (u : Machine). u .memory) (g .2))
+    subst (λ (z : Batch). CountOf d n r mem table (z .turns) × (z ≡ batchOf d n (z .turns) r mem table) × (mem′ ≡ batchMemory d (z .turns) r mem table))
+    (sym p) (g .0, λ j. record { turns = k; refusal = g .1 j; state = g .2 j .state }, ap (λ (u : Machine). u .memory) (g .2))
 
 -- a batch of one is a single turn
 single : (d : Direction) (r : Record) (mem table : List ℕ) (k : ℕ) → CountOf d 1 r mem table k

@@ -74,16 +74,22 @@ impl Record {
         }
     }
 
-    fn whole(at: Status, regs: [u32; 16]) -> Record
-        ensures { λ r. ⌜ r ≡ recordOf at regs ⌝ }
+    // What a run answers, with the record put together again.
+    fn answer(turns: u32, refusal: u32, at: Status, regs: [u32; 16]) -> Batch
+        ensures { λ r. ⌜ r ≡ record { turns = turns; refusal = refusal; state = recordOf at regs } ⌝ }
     {
-        Record {
+        let state = Record {
             regs,
             qifv: at.qifv,
             qifw: at.qifw,
             k: at.k,
             m: at.m,
             n: at.n,
+        };
+        Batch {
+            turns,
+            refusal,
+            state,
         }
     }
 
@@ -110,20 +116,12 @@ impl Record {
             let refusal = t.refusal;
             let next = t.at;
             if refusal != 0 {
-                return Batch {
-                    turns: i,
-                    refusal,
-                    state: Record::whole(next, regs),
-                };
+                return Record::answer(i, refusal, next, regs);
             }
             at = next;
             i += 1;
         }
-        Batch {
-            turns: i,
-            refusal: 0,
-            state: Record::whole(at, regs),
-        }
+        Record::answer(i, 0, at, regs)
     }
 
     // One turn: a run of one, so that the cycle keeps its one caller.

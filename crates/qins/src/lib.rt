@@ -67,11 +67,29 @@ fn extended_word(i: u32) -> u32
     if i < 32768 { i } else { i + 4294901760 }
 }
 
-// a, changed, and b, read.
+// Which registers a word names: none; a; a, changed, and b, read; a and b, both not pc.
+fn names_none(a: usize, b: usize) -> bool
+    ensures { λ r. ⌜ r ≡ none a b ⌝ }
+{
+    word::both(a == 0, b == 0)
+}
+
+fn names_one(a: usize, b: usize) -> bool
+    ensures { λ r. ⌜ r ≡ one a b ⌝ }
+{
+    word::both(1 < a, b == 0)
+}
+
 fn names_two(a: usize, b: usize) -> bool
     ensures { λ r. ⌜ r ≡ two a b ⌝ }
 {
     word::both(1 < a, word::both(b != 1, b != a))
+}
+
+fn names_both(a: usize, b: usize) -> bool
+    ensures { λ r. ⌜ r ≡ both a b ⌝ }
+{
+    word::both(names_two(a, b), 1 < b)
 }
 
 // a, changed, and b and c, read.
@@ -134,48 +152,79 @@ fn three_registers(a: usize, b: usize, i: u32) -> Op
     )
 }
 
-// The tests are made before the match, so that each arm is one choice.
+// The test holds, and the low half is zero.
+fn alone(test: bool, i: u32) -> bool
+    ensures { λ r. ⌜ r ≡ test && eqb i 0 ⌝ }
+{
+    word::both(test, i == 0)
+}
+
+// Each arm makes its own test, so that a word pays for one.
 fn operation_of(o: u32, a: usize, b: usize, i: u32) -> Op
     requires { ⌜ i < 65536 ⌝ }
     ensures { λ r. ⌜ r ≡ operation o a b i ⌝ }
 {
-    let alone = i == 0;
-    let one = word::both(1 < a, b == 0);
-    let none = word::both(a == 0, b == 0);
-    let two = names_two(a, b);
-    let pair = word::both(two, 1 < b);
-    let one_alone = word::both(one, alone);
-    let two_alone = word::both(two, alone);
-    let none_alone = word::both(none, alone);
-    let e = extended_word(i);
     match o {
-        1 => known(one, Op::Exchange(a, Source::Imm(i)), Op::None),
-        2 => known(one, Op::Xor(a, Source::Imm(i)), Op::None),
-        3 => known(one, Op::Add(a, Source::Imm(i)), Op::None),
-        4 => known(one, Op::Sub(a, Source::Imm(i)), Op::None),
-        5 => known(none, Op::Xor(1, Source::Imm(e)), Op::None),
-        6 => known(one, Op::Xor(1, Source::IfZero(a, e)), Op::None),
-        7 => known(one, Op::Xor(1, Source::IfNonzero(a, e)), Op::None),
-        16 => known(two_alone, Op::Exchange(a, Source::Reg(b)), Op::None),
-        17 => known(two_alone, Op::Fetch(a, b), Op::None),
-        18 => known(word::both(pair, alone), Op::Swap(a, b), Op::None),
-        19 => known(two_alone, Op::Xor(a, Source::Reg(b)), Op::None),
-        20 => known(two_alone, Op::Add(a, Source::Reg(b)), Op::None),
-        21 => known(two_alone, Op::Sub(a, Source::Reg(b)), Op::None),
-        22 => known(one_alone, Op::Neg(a), Op::None),
-        23 => known(one_alone, Op::Swap(a, 1), Op::None),
-        24 => known(one_alone, Op::Qif(a), Op::None),
-        25 => known(one_alone, Op::Fiq(a), Op::None),
-        26 => known(none_alone, Op::Start, Op::None),
-        27 => known(none_alone, Op::Finish, Op::None),
+        1 => known(names_one(a, b), Op::Exchange(a, Source::Imm(i)), Op::None),
+        2 => known(names_one(a, b), Op::Xor(a, Source::Imm(i)), Op::None),
+        3 => known(names_one(a, b), Op::Add(a, Source::Imm(i)), Op::None),
+        4 => known(names_one(a, b), Op::Sub(a, Source::Imm(i)), Op::None),
+        5 => known(
+            names_none(a, b),
+            Op::Xor(1, Source::Imm(extended_word(i))),
+            Op::None,
+        ),
+        6 => known(
+            names_one(a, b),
+            Op::Xor(1, Source::IfZero(a, extended_word(i))),
+            Op::None,
+        ),
+        7 => known(
+            names_one(a, b),
+            Op::Xor(1, Source::IfNonzero(a, extended_word(i))),
+            Op::None,
+        ),
+        16 => known(
+            alone(names_two(a, b), i),
+            Op::Exchange(a, Source::Reg(b)),
+            Op::None,
+        ),
+        17 => known(alone(names_two(a, b), i), Op::Fetch(a, b), Op::None),
+        18 => known(alone(names_both(a, b), i), Op::Swap(a, b), Op::None),
+        19 => known(
+            alone(names_two(a, b), i),
+            Op::Xor(a, Source::Reg(b)),
+            Op::None,
+        ),
+        20 => known(
+            alone(names_two(a, b), i),
+            Op::Add(a, Source::Reg(b)),
+            Op::None,
+        ),
+        21 => known(
+            alone(names_two(a, b), i),
+            Op::Sub(a, Source::Reg(b)),
+            Op::None,
+        ),
+        22 => known(alone(names_one(a, b), i), Op::Neg(a), Op::None),
+        23 => known(alone(names_one(a, b), i), Op::Swap(a, 1), Op::None),
+        24 => known(alone(names_one(a, b), i), Op::Qif(a), Op::None),
+        25 => known(alone(names_one(a, b), i), Op::Fiq(a), Op::None),
+        26 => known(alone(names_none(a, b), i), Op::Start, Op::None),
+        27 => known(alone(names_none(a, b), i), Op::Finish, Op::None),
         32 => known(
-            word::both(one, i == 256),
+            word::both(names_one(a, b), i == 256),
             Op::Xor(a, Source::Imm(1)),
             Op::None,
         ),
-        33 => two_or_none(pair, i, Op::Xor(b, Source::Bit(a)), Op::SwapBits(a, b)),
+        33 => two_or_none(
+            names_both(a, b),
+            i,
+            Op::Xor(b, Source::Bit(a)),
+            Op::SwapBits(a, b),
+        ),
         34 => two_or_none(
-            two,
+            names_two(a, b),
             i,
             Op::Xor(a, Source::Negated(b)),
             Op::Xor(a, Source::Complement(b)),

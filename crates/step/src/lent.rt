@@ -1,6 +1,7 @@
 // Lent words, read and written at any index: out of range a read gives 0 and a write does nothing.
 ghost use mathlib.Core.Path.{_≡_};
 ghost use mathlib.Core.List.{_++_};
+ghost use Prim.Native.Nat.{min};
 ghost use lib.ListN.{getD, set, take, drop};
 
 pub fn look(regs: &[u32], a: usize) -> u32
@@ -20,15 +21,21 @@ pub fn put(regs: &mut [u32], a: usize, v: u32)
     }
 }
 
+// The lower of m and the length. It is the same for all turns of a run, so one test an access is left.
+fn lower(m: u32, length: usize) -> usize
+    ensures { λ r. ⌜ r ≡ min m length ⌝ }
+{
+    let top = m as usize;
+    if top <= length { top } else { length }
+}
+
 // The word at an address below m.
 pub fn word_at(mem: &[u32], m: u32, a: u32) -> u32
     ensures { λ r. ⌜ r ≡ getD (take m (now (mem .entry))) a 0 ⌝ }
 {
     let i = a as usize;
-    if a < m {
-        if i < mem.len() {
-            return mem[i];
-        }
+    if i < lower(m, mem.len()) {
+        return mem[i];
     }
     0
 }
@@ -37,9 +44,7 @@ pub fn store(mem: &mut [u32], m: u32, a: u32, v: u32)
     ensures { λ _. ⌜ now (mem .exit) ≡ set (take m (now (mem .entry))) a v ++ drop m (now (mem .entry)) ⌝ }
 {
     let i = a as usize;
-    if a < m {
-        if i < mem.len() {
-            mem[i] = v;
-        }
+    if i < lower(m, mem.len()) {
+        mem[i] = v;
     }
 }
