@@ -3,9 +3,26 @@ ghost use mathlib.Core.Path.{_≡_};
 ghost use Rattle.step.specs.declared.Direction.{Direction};
 ghost use Rattle.machine.specs.Calls.{turnOf, memoryOf};
 ghost use Rattle.machine.specs.Batch.{batchOf, batchMemory, CountOf};
+ghost use mathlib.Core.Bool.{true, false};
+ghost use lib.ListN.{length};
+ghost use Rattle.word.specs.Word.{pick};
+ghost use Rattle.qins.specs.Decode.{isInstruction};
+ghost use Rattle.image.specs.Load.{loadOf, memAfterLoad, tableAfterLoad, prefaceOf};
+ghost use Rattle.image.specs.Save.{saveOf, outAfterSave};
+ghost use Rattle.image.specs.Check.{checkOf};
+use image::Checked;
+use image::Loaded;
 use machine::Batch;
 use machine::Record;
 use machine::Turned;
+
+// 1 where the word is an instruction, else 0.
+#[no_mangle]
+pub extern "C" fn qins_is_instruction(w: u32) -> u32
+    ensures { λ a. ⌜ a ≡ pick (isInstruction w) 1 0 ⌝ }
+{
+    word::choose(qins::is_instruction(w), 1, 0)
+}
 
 #[no_mangle]
 pub extern "C" fn crank_forward(r: Record, mem: &mut [u32], table: &[u32]) -> Turned
@@ -43,4 +60,38 @@ pub extern "C" fn crank_back_batch(r: Record, n: u32, mem: &mut [u32], table: &[
         × (now (mem .exit) ≡ batchMemory Direction.Back (a .turns) r (now (mem .entry)) (now (table .entry))) ⌝ }
 {
     r.back_batch(n, mem, table)
+}
+
+#[no_mangle]
+pub extern "C" fn crank_load(file: &[u8], mem: &mut [u32], table: &mut [u32]) -> Loaded
+    ensures { λ a.
+        ⌜ (a ≡ loadOf (now (file .entry)) (now (mem .entry)) (now (table .entry)))
+        × (now (mem .exit) ≡ memAfterLoad (now (file .entry)) (now (mem .entry)) (now (table .entry)))
+        × (now (table .exit) ≡ tableAfterLoad (now (file .entry)) (now (mem .entry)) (now (table .entry))) ⌝ }
+{
+    image::load(file, mem, table)
+}
+
+// The preface is the file's first so many bytes.
+#[no_mangle]
+pub extern "C" fn crank_preface_length(file: &[u8]) -> usize
+    ensures { λ a. ⌜ a ≡ length (prefaceOf (now (file .entry))) ⌝ }
+{
+    image::preface(file).len()
+}
+
+#[no_mangle]
+pub extern "C" fn crank_save(r: Record, mem: &[u32], table: &[u32], out: &mut [u8]) -> u32
+    ensures { λ a.
+        ⌜ (a ≡ saveOf r (now (mem .entry)) (now (table .entry)) (now (out .entry)))
+        × (now (out .exit) ≡ outAfterSave r (now (mem .entry)) (now (table .entry)) (now (out .entry))) ⌝ }
+{
+    image::save(r, mem, table, out)
+}
+
+#[no_mangle]
+pub extern "C" fn crank_check(r: Record, mem: &[u32], table: &[u32]) -> Checked
+    ensures { λ a. ⌜ a ≡ checkOf r (now (mem .entry)) (now (table .entry)) ⌝ }
+{
+    image::check(r, mem, table)
 }

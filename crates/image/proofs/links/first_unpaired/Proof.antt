@@ -1,0 +1,30 @@
+use mathlib.Core.Path.{sym, _∙_}
+use Prim.Native.Nat.{_+_, _-_, _*_}
+use denote.Ref.{now}
+use native.Mathlib.Omega.{arith}
+use lib.ListN.{take}
+use Rattle.image.specs.Check.{unpaired}
+use Rattle.image.proofs.Search.{Searching, search-starts, search-hits, search-ends, search-goes-on}
+use borrow.Author.Needs.{needs}
+use Rattle.image.proofs.links.first_unpaired.Statement.{statement}
+use Rattle.image.proofs.links.first_unpaired.Tie as tie
+
+abbrev Inv-loop : tie.InvT-loop
+Inv-loop table n v₀ v = Searching (unpaired (take (9 * n) table) n) 1 n v
+
+abbrev μ-loop : tie.MeasureT-loop
+μ-loop table n v₀ v = 1 + n - v
+
+pub first-unpaired-spec : {M : Type 1} → statement M
+first-unpaired-spec =
+    tie.close
+    (tie.spec Inv-loop μ-loop
+    (λ c. search-starts _ 1 _)
+    (λ c κs. search needs)
+    (λ c. let g = c .before .before .before .before .before .args in let l = c .before .before .before .loop in
+    search-hits (unpaired (take (9 * g .n) (now (g .table))) (g .n)) 1 (g .n) (l .v) (l .inv) (omega arith) (sym (c .before .is-unpaired .ensures) ∙ c .if1 .taken))
+    (λ c. search needs) (λ c. search needs)
+    (λ c. let g = c .before .before .before .before .before .args in let l = c .before .before .before .loop in
+    search-goes-on (unpaired (take (9 * g .n) (now (g .table))) (g .n)) 1 (g .n) (l .v) (l .inv) (omega arith) (sym (c .before .is-unpaired .ensures) ∙ c .if1 .left))
+    (λ c. let g = c .before .before .before .args in let l = c .before .loop in
+    search-ends (unpaired (take (9 * g .n) (now (g .table))) (g .n)) 1 (g .n) (l .v) (l .inv) (omega arith)))

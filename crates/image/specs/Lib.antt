@@ -1,0 +1,5 @@
+pub mod Format
+pub mod Load
+pub mod Save
+pub mod Check
+pub mod Claims
