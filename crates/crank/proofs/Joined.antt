@@ -55,8 +55,7 @@ module _ (table : List ℕ) (d : Direction) where
         → Count table d n x (i + k) × (w ≡ pick (ltb (i + k) n) (refusal table d (after table d (i + k) x)) 0)
     stopped w z e =
         let l : k < n - i = within w z e in
-        let r : w ≡ refusal table d (after table d (i + k) x) = e ∙ (rw (lt-ltb k (n - i) l) (ap (refusal table d) (sym joined))) in
-        (
+        let r : w ≡ refusal table d (after table d (i + k) x) = e ∙ (rw (lt-ltb k (n - i) l) (ap (refusal table d) (sym joined))) in (
           record { most = omega arith; some = λ p q. first (i + k) r q; accepted = all },
           rw (lt-ltb (i + k) n (omega arith)) r,
         )

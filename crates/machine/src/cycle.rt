@@ -146,7 +146,7 @@ fn execute(d: Direction, at: Status, regs: &[u32], mem: &[u32], table: &[u32]) -
     ensures { λ r. ⌜ r ≡ executed (nodes at (now (table .entry))) d (seen at (now (regs .entry)) (now (mem .entry))) ⌝ }
 {
     let w = word_at(mem, at.m, look(regs, 0));
-    attempt(d, qins::decode_word(w), at, regs, mem, table)
+    attempt(d, w, at, regs, mem, table)
 }
 
 // What a turn is to do, and pc after it.

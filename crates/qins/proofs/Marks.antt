@@ -7,7 +7,7 @@ use lib.Dec.{eqb}
 use borrow.Author.Tests.{eqb-true, eqb-false}
 use Rattle.word.specs.Word.{pick}
 use Rattle.word.proofs.Words.{and-true}
-use Rattle.qins.specs.Decode.{opcode, reg1, reg2, low, none, line, operation, decode, startWord, finishWord, kind, OneWord}
+use Rattle.qins.specs.Decode.{opcode, reg1, reg2, low, bare, none, line, operation, decode, startWord, finishWord, kind, OneWord}
 use Rattle.qins.specs.declared.Op.{Op}
 
 -- a line whose operation is not of kind x, where it holds
@@ -20,8 +20,8 @@ off x o k test op rest h g = go (eqb o k && test) h
     go true h = h refl
     go false h = g
 
-module _ (x o a b i : ℕ) (y : eqb 0 x ≡ false) (z : eqb 3 x ≡ false) (p : eqb o 26 && (none a b && eqb i 0) ≡ true → eqb 1 x ≡ false)
-    (q : eqb o 27 && (none a b && eqb i 0) ≡ true → eqb 2 x ≡ false) where
+module _ (x o a b i : ℕ) (y : eqb 0 x ≡ false) (z : eqb 3 x ≡ false) (p : eqb o 26 && (bare i && none a b) ≡ true → eqb 1 x ≡ false)
+    (q : eqb o 27 && (bare i && none a b) ≡ true → eqb 2 x ≡ false) where
   unlike : eqb (kind (operation o a b i)) x ≡ false
   unfolding operation
   unlike =
@@ -34,12 +34,12 @@ module _ (x o a b i : ℕ) (y : eqb 0 x ≡ false) (z : eqb 3 x ≡ false) (p : 
       y))))))))))))))))))))))))))))
 
 -- a word of opcode k that names no register and has no low half is k in bits 31-24
-bare : (w k : ℕ) → eqb (opcode w) k && (none (reg1 w) (reg2 w) && eqb (low w) 0) ≡ true → w ≡ k * 16777216
-bare w k h =
+alone : (w k : ℕ) → eqb (opcode w) k && (bare (low w) && none (reg1 w) (reg2 w)) ≡ true → w ≡ k * 16777216
+alone w k h =
     let p = and-true (eqb (opcode w) k) _ h in
-    let q = and-true (none (reg1 w) (reg2 w)) (eqb (low w) 0) (p .1) in
-    let n = and-true (eqb (reg1 w) 0) (eqb (reg2 w) 0) (q .0) in
-    sum (eqb-true _ _ (p .0)) (eqb-true _ _ (n .0)) (eqb-true _ _ (n .1)) (eqb-true _ _ (q .1))
+    let q = and-true (bare (low w)) (none (reg1 w) (reg2 w)) (p .1) in
+    let n = and-true (eqb (reg1 w) 0) (eqb (reg2 w) 0) (q .1) in
+    sum (eqb-true _ _ (p .0)) (eqb-true _ _ (n .0)) (eqb-true _ _ (n .1)) (eqb-true _ _ (q .0))
   where
     sum : opcode w ≡ k → reg1 w ≡ 0 → reg2 w ≡ 0 → low w ≡ 0 → w ≡ k * 16777216
     sum e f g h =
@@ -60,11 +60,11 @@ test-is w₀ x at off w = go (eqb w w₀) refl
 
 not-start : (w : ℕ) → (w ≡ startWord → ⊥) → eqb (kind (decode w)) 1 ≡ false
 unfolding decode
-not-start w n = unlike 1 _ _ _ _ refl refl (λ h. absurd (n (bare w 26 h))) (λ h. refl)
+not-start w n = unlike 1 _ _ _ _ refl refl (λ h. absurd (n (alone w 26 h))) (λ h. refl)
 
 not-finish : (w : ℕ) → (w ≡ finishWord → ⊥) → eqb (kind (decode w)) 2 ≡ false
 unfolding decode
-not-finish w n = unlike 2 _ _ _ _ refl refl (λ h. refl) (λ h. absurd (n (bare w 27 h)))
+not-finish w n = unlike 2 _ _ _ _ refl refl (λ h. refl) (λ h. absurd (n (alone w 27 h)))
 
 pub one-word : OneWord
 unfolding decode operation line

@@ -3,7 +3,7 @@ use Prim.Native.Nat.{ℕ, _+_, _*_, _/_, _%_}
 use mathlib.Core.Path.{_≡_}
 use mathlib.Core.Bool.{Bool, true, false, not, _&&_}
 use lib.Dec.{eqb, ltb}
-use Rattle.word.specs.Word.{pick}
+use Rattle.word.specs.Word.{pick, addWord}
 use Rattle.qins.specs.declared.Op.{Op}
 use Rattle.qins.specs.declared.Op.the-variants.{None, Start, Finish, Xor, Add, Sub, Neg, Swap, SwapBits, Fetch, Exchange, Qif, Fiq}
 use Rattle.qins.specs.declared.Source.{Source}
@@ -31,6 +31,10 @@ low w = w % 65536
 abbrev pub reg3 : ℕ → ℕ
 reg3 i = i / 4096
 
+-- the low half is zero
+abbrev pub bare : ℕ → Bool
+bare i = eqb i 0
+
 -- the low half has para p in its bits 11-8, and zeros beside it
 abbrev pub para : ℕ → ℕ → Bool
 para i p = eqb i (256 * p)
@@ -41,7 +45,7 @@ para3 i p = eqb (i % 4096) (256 * p)
 
 -- a 16-bit immediate with its sign extended to 32 bits
 unfoldable pub extended : ℕ → ℕ
-extended i = pick (ltb i 32768) i (i + 4294901760)
+extended i = pick (ltb i 32768) i (addWord i 4294901760)
 
 -- ---- which registers a word may name: br (1) never, pc (0) only where it is read, all different
 
@@ -82,28 +86,28 @@ operation o a b i =
     (line o 5 (none a b) (Xor 1 (Imm (extended i)))
     (line o 6 (one a b) (Xor 1 (IfZero a (extended i)))
     (line o 7 (one a b) (Xor 1 (IfNonzero a (extended i)))
-    (line o 16 (two a b && eqb i 0) (Exchange a (Reg b))
-    (line o 17 (two a b && eqb i 0) (Fetch a b)
-    (line o 18 (both a b && eqb i 0) (Swap a b)
-    (line o 19 (two a b && eqb i 0) (Xor a (Reg b))
-    (line o 20 (two a b && eqb i 0) (Add a (Reg b))
-    (line o 21 (two a b && eqb i 0) (Sub a (Reg b))
-    (line o 22 (one a b && eqb i 0) (Neg a)
-    (line o 23 (one a b && eqb i 0) (Swap a 1)
-    (line o 24 (one a b && eqb i 0) (Qif a)
-    (line o 25 (one a b && eqb i 0) (Fiq a)
-    (line o 26 (none a b && eqb i 0) Start
-    (line o 27 (none a b && eqb i 0) Finish
-    (line o 32 (one a b && para i 1) (Xor a (Imm 1))
-    (line o 33 (both a b && para i 1) (Xor b (Bit a))
-    (line o 33 (both a b && para i 2) (SwapBits a b)
-    (line o 34 (two a b && para i 1) (Xor a (Negated b))
-    (line o 34 (two a b && para i 2) (Xor a (Complement b))
-    (line o 35 (three a b (reg3 i) && para3 i 1) (Xor a (Sum b (reg3 i)))
-    (line o 35 (three a b (reg3 i) && para3 i 2) (Xor a (Product b (reg3 i)))
-    (line o 35 (three a b (reg3 i) && para3 i 3) (Xor a (Quotient b (reg3 i)))
-    (line o 35 (three a b (reg3 i) && para3 i 4) (Xor a (Equal b (reg3 i)))
-    (line o 35 (three a b (reg3 i) && para3 i 5) (Xor a (Less b (reg3 i)))
+    (line o 16 (bare i && two a b) (Exchange a (Reg b))
+    (line o 17 (bare i && two a b) (Fetch a b)
+    (line o 18 (bare i && both a b) (Swap a b)
+    (line o 19 (bare i && two a b) (Xor a (Reg b))
+    (line o 20 (bare i && two a b) (Add a (Reg b))
+    (line o 21 (bare i && two a b) (Sub a (Reg b))
+    (line o 22 (bare i && one a b) (Neg a)
+    (line o 23 (bare i && one a b) (Swap a 1)
+    (line o 24 (bare i && one a b) (Qif a)
+    (line o 25 (bare i && one a b) (Fiq a)
+    (line o 26 (bare i && none a b) Start
+    (line o 27 (bare i && none a b) Finish
+    (line o 32 (para i 1 && one a b) (Xor a (Imm 1))
+    (line o 33 (para i 1 && both a b) (Xor b (Bit a))
+    (line o 33 (para i 2 && both a b) (SwapBits a b)
+    (line o 34 (para i 1 && two a b) (Xor a (Negated b))
+    (line o 34 (para i 2 && two a b) (Xor a (Complement b))
+    (line o 35 (para3 i 1 && three a b (reg3 i)) (Xor a (Sum b (reg3 i)))
+    (line o 35 (para3 i 2 && three a b (reg3 i)) (Xor a (Product b (reg3 i)))
+    (line o 35 (para3 i 3 && three a b (reg3 i)) (Xor a (Quotient b (reg3 i)))
+    (line o 35 (para3 i 4 && three a b (reg3 i)) (Xor a (Equal b (reg3 i)))
+    (line o 35 (para3 i 5 && three a b (reg3 i)) (Xor a (Less b (reg3 i)))
     None))))))))))))))))))))))))))))
 
 unfoldable pub decode : ℕ → Op

@@ -5,7 +5,7 @@ ghost use mathlib.Core.Bool.{true, false, not, _&&_};
 ghost use Prim.Native.Nat.{ℕ, _+_, _*_, _/_, _%_, _<_};
 ghost use lib.Dec.{eqb, ltb};
 ghost use Rattle.word.specs.Word.{pick};
-ghost use Rattle.qins.specs.Decode.{extended, none, one, two, both, three, para, operation, decode, kind, isInstruction};
+ghost use Rattle.qins.specs.Decode.{extended, bare, none, one, two, both, three, para, operation, decode, kind, isInstruction};
 
 // The word of start, and of finish.
 pub const START: u32 = 0x1A000000;
@@ -60,40 +60,39 @@ pub enum Op {
 }
 
 // A 16-bit immediate with its sign.
-fn extended_word(i: u32) -> u32
-    requires { ⌜ i < 65536 ⌝ }
+pub fn extended_word(i: u32) -> u32
     ensures { λ r. ⌜ r ≡ extended i ⌝ }
 {
-    if i < 32768 { i } else { i + 4294901760 }
+    word::choose(i < 32768, i, word::add_word(i, 4294901760))
 }
 
 // Which registers a word names: none; a; a, changed, and b, read; a and b, both not pc.
-fn names_none(a: usize, b: usize) -> bool
+pub fn names_none(a: usize, b: usize) -> bool
     ensures { λ r. ⌜ r ≡ none a b ⌝ }
 {
     word::both(a == 0, b == 0)
 }
 
-fn names_one(a: usize, b: usize) -> bool
+pub fn names_one(a: usize, b: usize) -> bool
     ensures { λ r. ⌜ r ≡ one a b ⌝ }
 {
     word::both(1 < a, b == 0)
 }
 
-fn names_two(a: usize, b: usize) -> bool
+pub fn names_two(a: usize, b: usize) -> bool
     ensures { λ r. ⌜ r ≡ two a b ⌝ }
 {
     word::both(1 < a, word::both(b != 1, b != a))
 }
 
-fn names_both(a: usize, b: usize) -> bool
+pub fn names_both(a: usize, b: usize) -> bool
     ensures { λ r. ⌜ r ≡ both a b ⌝ }
 {
     word::both(names_two(a, b), 1 < b)
 }
 
 // a, changed, and b and c, read.
-fn names_three(a: usize, b: usize, c: usize) -> bool
+pub fn names_three(a: usize, b: usize, c: usize) -> bool
     ensures { λ r. ⌜ r ≡ three a b c ⌝ }
 {
     word::both(names_two(a, b), word::both(names_two(a, c), c != b))
@@ -108,60 +107,58 @@ fn known(test: bool, op: Op, rest: Op) -> Op
 
 // The first at para 1, the second at para 2. A para p alone in the low half is 256 p.
 fn two_or_none(test: bool, i: u32, first: Op, second: Op) -> Op
-    ensures { λ r. ⌜ r ≡ pick (test && para i 1) first (pick (test && para i 2) second Op.None) ⌝ }
+    ensures { λ r. ⌜ r ≡ pick (para i 1 && test) first (pick (para i 2 && test) second Op.None) ⌝ }
 {
     known(
-        word::both(test, i == 256),
+        word::both(i == 256, test),
         first,
-        known(word::both(test, i == 512), second, Op::None),
+        known(word::both(i == 512, test), second, Op::None),
     )
 }
 
 // arib, by its para.
 fn three_registers(a: usize, b: usize, i: u32) -> Op
-    requires { ⌜ i < 65536 ⌝ }
     ensures { λ r. ⌜ r ≡ operation 35 a b i ⌝ }
 {
     let c = (i / 4096) as usize;
     let p = i % 4096;
     let test = names_three(a, b, c);
     let less = known(
-        word::both(test, p == 1280),
+        word::both(p == 1280, test),
         Op::Xor(a, Source::Less(b, c)),
         Op::None,
     );
     let equal = known(
-        word::both(test, p == 1024),
+        word::both(p == 1024, test),
         Op::Xor(a, Source::Equal(b, c)),
         less,
     );
     let quotient = known(
-        word::both(test, p == 768),
+        word::both(p == 768, test),
         Op::Xor(a, Source::Quotient(b, c)),
         equal,
     );
     let product = known(
-        word::both(test, p == 512),
+        word::both(p == 512, test),
         Op::Xor(a, Source::Product(b, c)),
         quotient,
     );
     known(
-        word::both(test, p == 256),
+        word::both(p == 256, test),
         Op::Xor(a, Source::Sum(b, c)),
         product,
     )
 }
 
 // The test holds, and the low half is zero.
-fn alone(test: bool, i: u32) -> bool
-    ensures { λ r. ⌜ r ≡ test && eqb i 0 ⌝ }
+pub fn alone(test: bool, i: u32) -> bool
+    ensures { λ r. ⌜ r ≡ bare i && test ⌝ }
 {
-    word::both(test, i == 0)
+    word::both(i == 0, test)
 }
 
 // Each arm makes its own test, so that a word pays for one.
 fn operation_of(o: u32, a: usize, b: usize, i: u32) -> Op
-    requires { ⌜ i < 65536 ⌝ }
     ensures { λ r. ⌜ r ≡ operation o a b i ⌝ }
 {
     match o {
@@ -213,7 +210,7 @@ fn operation_of(o: u32, a: usize, b: usize, i: u32) -> Op
         26 => known(alone(names_none(a, b), i), Op::Start, Op::None),
         27 => known(alone(names_none(a, b), i), Op::Finish, Op::None),
         32 => known(
-            word::both(names_one(a, b), i == 256),
+            word::both(i == 256, names_one(a, b)),
             Op::Xor(a, Source::Imm(1)),
             Op::None,
         ),

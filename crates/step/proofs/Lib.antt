@@ -1,3 +1,4 @@
 pub mod Views
 pub mod Sized
+pub mod Known
 pub mod Undo

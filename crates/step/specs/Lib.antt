@@ -1,4 +1,3 @@
 pub mod State
 pub mod Table
 pub mod Step
-pub mod Operand

@@ -1,12 +1,14 @@
-// An operation attempted: its effect, or the number that refuses it. Nothing is written.
+// An instruction word attempted: its effect, or the number that refuses it. Nothing is written.
 ghost use mathlib.Core.Path.{_≡_};
 ghost use mathlib.Core.Bool.{not, _&&_};
 ghost use Prim.Native.Nat.{_+_};
 ghost use lib.Dec.{eqb, ltb};
-ghost use lib.ListN.{take};
-ghost use Rattle.word.specs.Word.{pick};
+ghost use lib.Bits.{bitXor};
+ghost use lib.ListN.{getD, take};
+ghost use Rattle.word.specs.Word.{pick, subWord, withBit};
+ghost use Rattle.qins.specs.Decode.{operation, decode};
 ghost use Rattle.step.specs.State.{seen, nodes};
-ghost use Rattle.step.specs.Step.{refuse, calm, inData, isCoin, child, enter, qif, pass, fiq, attempt};
+ghost use Rattle.step.specs.Step.{shifted, refuse, calm, inData, isCoin, child, enter, qif, pass, fiq, attempt};
 use crate::Attempt;
 use crate::Direction;
 use crate::Effect;
@@ -16,11 +18,15 @@ use crate::lent::word_at;
 use crate::operand::flip_of;
 use crate::operand::one_less;
 use crate::operand::shift;
-use crate::operand::source_of;
-use crate::operand::value;
 use crate::table::is_paired;
 use crate::table::link_of;
-use qins::Op;
+use qins::alone;
+use qins::extended_word;
+use qins::names_both;
+use qins::names_none;
+use qins::names_one;
+use qins::names_three;
+use qins::names_two;
 
 // ---- refusals
 
@@ -55,12 +61,31 @@ fn write_two(at: Status, a: usize, v: u32, b: usize, y: u32) -> Attempt
     when_calm(at, Attempt::Does(Effect::WriteTwo(a, v, b, y)))
 }
 
+fn nothing(at: Status) -> Attempt
+    ensures { λ r. ⌜ r ≡ calm at (Attempt.Does Effect.Nothing) ⌝ }
+{
+    when_calm(at, Attempt::Does(Effect::Nothing))
+}
+
+fn if_zero(x: u32, a: u32, b: u32) -> u32
+    ensures { λ r. ⌜ r ≡ pick (eqb x 0) a b ⌝ }
+{
+    word::choose(x == 0, a, b)
+}
+
 // An effect that uses the data address i.
 fn at_data(at: Status, i: u32, e: Effect) -> Attempt
     ensures { λ r. ⌜ r ≡ calm at (inData at i (Attempt.Does e)) ⌝ }
 {
     let data = word::both(at.k <= i, i < at.m);
     when_calm(at, refused_if(!data, 15, Attempt::Does(e)))
+}
+
+// A register exchanged with the word at i.
+fn exchange(at: Status, a: usize, i: u32) -> Attempt
+    ensures { λ r. ⌜ r ≡ calm at (inData at i (Attempt.Does (Effect.Trade a i))) ⌝ }
+{
+    at_data(at, i, Effect::Trade(a, i))
 }
 
 // ---- qif, waiting and fiq
@@ -140,46 +165,236 @@ fn attempt_fiq(d: Direction, at: Status, table: &[u32], x: u32) -> Attempt
     }
 }
 
-// ---- every operation
+fn qif_at(d: Direction, at: Status, regs: &[u32], table: &[u32], a: usize) -> Attempt
+    ensures { λ r. ⌜ r ≡ isCoin (getD (now (regs .entry)) a 0) (qif (nodes at (now (table .entry))) d at (getD (now (regs .entry)) a 0)) ⌝ }
+{
+    let x = look(regs, a);
+    refused_if(1 < x, 16, attempt_qif(d, at, table, x))
+}
 
-pub fn attempt(
+fn fiq_at(d: Direction, at: Status, regs: &[u32], table: &[u32], a: usize) -> Attempt
+    ensures { λ r. ⌜ r ≡ calm at (isCoin (getD (now (regs .entry)) a 0) (fiq (nodes at (now (table .entry))) d at (getD (now (regs .entry)) a 0))) ⌝ }
+{
+    let x = look(regs, a);
+    when_calm(at, refused_if(1 < x, 16, attempt_fiq(d, at, table, x)))
+}
+
+// ---- changes of registers
+
+fn xor_into(at: Status, regs: &[u32], a: usize, v: u32) -> Attempt
+    ensures { λ r. ⌜ r ≡ calm at (Attempt.Does (Effect.Write a (bitXor (getD (now (regs .entry)) a 0) v))) ⌝ }
+{
+    write(at, a, word::xor_word(look(regs, a), v))
+}
+
+fn shift_into(d: Direction, at: Status, regs: &[u32], a: usize, v: u32) -> Attempt
+    ensures { λ r. ⌜ r ≡ calm at (Attempt.Does (Effect.Write a (shifted d (getD (now (regs .entry)) a 0) v))) ⌝ }
+{
+    write(at, a, shift(d, look(regs, a), v))
+}
+
+fn negate(at: Status, regs: &[u32], a: usize) -> Attempt
+    ensures { λ r. ⌜ r ≡ calm at (Attempt.Does (Effect.Write a (subWord 0 (getD (now (regs .entry)) a 0)))) ⌝ }
+{
+    write(at, a, word::sub_word(0, look(regs, a)))
+}
+
+fn swap(at: Status, regs: &[u32], a: usize, b: usize) -> Attempt
+    ensures { λ r. ⌜ r ≡ calm at (Attempt.Does (Effect.WriteTwo a (getD (now (regs .entry)) b 0) b (getD (now (regs .entry)) a 0))) ⌝ }
+{
+    write_two(at, a, look(regs, b), b, look(regs, a))
+}
+
+fn swap_bits(at: Status, regs: &[u32], a: usize, b: usize) -> Attempt
+    ensures { λ r.
+        ⌜ r ≡ calm at (Attempt.Does (Effect.WriteTwo a (withBit (getD (now (regs .entry)) a 0) (getD (now (regs .entry)) b 0))
+        b (withBit (getD (now (regs .entry)) b 0) (getD (now (regs .entry)) a 0)))) ⌝ }
+{
+    let x = look(regs, a);
+    let z = look(regs, b);
+    write_two(at, a, word::with_bit(x, z), b, word::with_bit(z, x))
+}
+
+// The word at i xored into a register.
+fn fetch(at: Status, regs: &[u32], mem: &[u32], a: usize, i: u32) -> Attempt
+    ensures { λ r.
+        ⌜ r ≡ calm at (inData at i (Attempt.Does (Effect.Write a (bitXor (getD (now (regs .entry)) a 0) (getD (take (at .m) (now (mem .entry))) i 0))))) ⌝ }
+{
+    let v = word::xor_word(look(regs, a), word_at(mem, at.m, i));
+    at_data(at, i, Effect::Write(a, v))
+}
+
+// ---- every instruction word, by its fields. It is executed as it is decoded: the operation that
+// decode gives is not built, which a turn would pay for.
+
+fn known(test: bool, x: Attempt) -> Attempt
+    ensures { λ r. ⌜ r ≡ pick test x (Attempt.Refused 13) ⌝ }
+{
+    either(test, x, Attempt::Refused(13))
+}
+
+fn attempt_unib(
     d: Direction,
-    op: Op,
+    a: usize,
+    b: usize,
+    i: u32,
     at: Status,
     regs: &[u32],
     mem: &[u32],
     table: &[u32],
 ) -> Attempt
-    ensures { λ r. ⌜ r ≡ attempt (nodes at (now (table .entry))) d op (seen at (now (regs .entry)) (now (mem .entry))) ⌝ }
+    ensures { λ r. ⌜ r ≡ attempt (nodes at (now (table .entry))) d (operation 33 a b i) (seen at (now (regs .entry)) (now (mem .entry))) ⌝ }
 {
-    let y = value(source_of(op), regs);
-    match op {
-        Op::None => Attempt::Refused(13),
-        Op::Start => when_calm(at, Attempt::Does(Effect::Nothing)),
-        Op::Finish => when_calm(at, Attempt::Does(Effect::Nothing)),
-        Op::Xor(a, _v) => write(at, a, word::xor_word(look(regs, a), y)),
-        Op::Add(a, _v) => write(at, a, shift(d, look(regs, a), y)),
-        Op::Sub(a, _v) => write(at, a, shift(flip_of(d), look(regs, a), y)),
-        Op::Neg(a) => write(at, a, word::sub_word(0, look(regs, a))),
-        Op::Swap(a, b) => write_two(at, a, look(regs, b), b, look(regs, a)),
-        Op::SwapBits(a, b) => {
-            let x = look(regs, a);
-            let z = look(regs, b);
-            write_two(at, a, word::with_bit(x, z), b, word::with_bit(z, x))
-        }
-        Op::Fetch(a, b) => {
-            let i = look(regs, b);
-            let v = word::xor_word(look(regs, a), word_at(mem, at.m, i));
-            at_data(at, i, Effect::Write(a, v))
-        }
-        Op::Exchange(a, _v) => at_data(at, y, Effect::Trade(a, y)),
-        Op::Qif(a) => {
-            let x = look(regs, a);
-            refused_if(1 < x, 16, attempt_qif(d, at, table, x))
-        }
-        Op::Fiq(a) => {
-            let x = look(regs, a);
-            when_calm(at, refused_if(1 < x, 16, attempt_fiq(d, at, table, x)))
-        }
+    match i {
+        256 => known(
+            names_both(a, b),
+            xor_into(at, regs, b, word::low_bit(look(regs, a))),
+        ),
+        512 => known(names_both(a, b), swap_bits(at, regs, a, b)),
+        _ => Attempt::Refused(13),
     }
+}
+
+fn attempt_ari(
+    d: Direction,
+    a: usize,
+    b: usize,
+    i: u32,
+    at: Status,
+    regs: &[u32],
+    mem: &[u32],
+    table: &[u32],
+) -> Attempt
+    ensures { λ r. ⌜ r ≡ attempt (nodes at (now (table .entry))) d (operation 34 a b i) (seen at (now (regs .entry)) (now (mem .entry))) ⌝ }
+{
+    match i {
+        256 => known(
+            names_two(a, b),
+            xor_into(at, regs, a, word::sub_word(0, look(regs, b))),
+        ),
+        512 => known(
+            names_two(a, b),
+            xor_into(at, regs, a, word::complement_of(look(regs, b))),
+        ),
+        _ => Attempt::Refused(13),
+    }
+}
+
+fn attempt_arib(
+    d: Direction,
+    a: usize,
+    b: usize,
+    i: u32,
+    at: Status,
+    regs: &[u32],
+    mem: &[u32],
+    table: &[u32],
+) -> Attempt
+    ensures { λ r. ⌜ r ≡ attempt (nodes at (now (table .entry))) d (operation 35 a b i) (seen at (now (regs .entry)) (now (mem .entry))) ⌝ }
+{
+    let c = (i / 4096) as usize;
+    let x = look(regs, b);
+    let y = look(regs, c);
+    let p = i % 4096;
+    match p {
+        256 => known(
+            names_three(a, b, c),
+            xor_into(at, regs, a, word::add_word(x, y)),
+        ),
+        512 => known(
+            names_three(a, b, c),
+            xor_into(at, regs, a, word::mul_word(x, y)),
+        ),
+        768 => known(
+            names_three(a, b, c),
+            xor_into(at, regs, a, word::div_word(x, y)),
+        ),
+        1024 => known(
+            names_three(a, b, c),
+            xor_into(at, regs, a, word::choose(x == y, 1, 0)),
+        ),
+        1280 => known(
+            names_three(a, b, c),
+            xor_into(at, regs, a, word::choose(x < y, 1, 0)),
+        ),
+        _ => Attempt::Refused(13),
+    }
+}
+
+fn attempt_fields(
+    d: Direction,
+    o: u32,
+    a: usize,
+    b: usize,
+    i: u32,
+    at: Status,
+    regs: &[u32],
+    mem: &[u32],
+    table: &[u32],
+) -> Attempt
+    ensures { λ r. ⌜ r ≡ attempt (nodes at (now (table .entry))) d (operation o a b i) (seen at (now (regs .entry)) (now (mem .entry))) ⌝ }
+{
+    match o {
+        1 => known(names_one(a, b), exchange(at, a, i)),
+        2 => known(names_one(a, b), xor_into(at, regs, a, i)),
+        3 => known(names_one(a, b), shift_into(d, at, regs, a, i)),
+        4 => known(names_one(a, b), shift_into(flip_of(d), at, regs, a, i)),
+        5 => known(names_none(a, b), xor_into(at, regs, 1, extended_word(i))),
+        6 => known(
+            names_one(a, b),
+            xor_into(at, regs, 1, if_zero(look(regs, a), extended_word(i), 0)),
+        ),
+        7 => known(
+            names_one(a, b),
+            xor_into(at, regs, 1, if_zero(look(regs, a), 0, extended_word(i))),
+        ),
+        16 => known(alone(names_two(a, b), i), exchange(at, a, look(regs, b))),
+        17 => known(
+            alone(names_two(a, b), i),
+            fetch(at, regs, mem, a, look(regs, b)),
+        ),
+        18 => known(alone(names_both(a, b), i), swap(at, regs, a, b)),
+        19 => known(
+            alone(names_two(a, b), i),
+            xor_into(at, regs, a, look(regs, b)),
+        ),
+        20 => known(
+            alone(names_two(a, b), i),
+            shift_into(d, at, regs, a, look(regs, b)),
+        ),
+        21 => known(
+            alone(names_two(a, b), i),
+            shift_into(flip_of(d), at, regs, a, look(regs, b)),
+        ),
+        22 => known(alone(names_one(a, b), i), negate(at, regs, a)),
+        23 => known(alone(names_one(a, b), i), swap(at, regs, a, 1)),
+        24 => known(alone(names_one(a, b), i), qif_at(d, at, regs, table, a)),
+        25 => known(alone(names_one(a, b), i), fiq_at(d, at, regs, table, a)),
+        26 => known(alone(names_none(a, b), i), nothing(at)),
+        27 => known(alone(names_none(a, b), i), nothing(at)),
+        32 => known(
+            word::both(i == 256, names_one(a, b)),
+            xor_into(at, regs, a, 1),
+        ),
+        33 => attempt_unib(d, a, b, i, at, regs, mem, table),
+        34 => attempt_ari(d, a, b, i, at, regs, mem, table),
+        35 => attempt_arib(d, a, b, i, at, regs, mem, table),
+        _ => Attempt::Refused(13),
+    }
+}
+
+// What the word w would do, or why it is refused.
+pub fn attempt(
+    d: Direction,
+    w: u32,
+    at: Status,
+    regs: &[u32],
+    mem: &[u32],
+    table: &[u32],
+) -> Attempt
+    ensures { λ r. ⌜ r ≡ attempt (nodes at (now (table .entry))) d (decode w) (seen at (now (regs .entry)) (now (mem .entry))) ⌝ }
+{
+    let a = (w / 1048576 % 16) as usize;
+    let b = (w / 65536 % 16) as usize;
+    attempt_fields(d, w / 16777216, a, b, w % 65536, at, regs, mem, table)
 }

@@ -6,5 +6,5 @@ pub execute-spec : {M : Type 1} → statement M
 execute-spec =
     tie.close
     (tie.spec
-    (λ c κs. search needs) (λ c κs. search needs) (λ c κs. search needs) (λ c κs. search needs)
-    (λ c. simp (c .attempt .ensures, c .before .decode-word .ensures, c .before .before .word-at .ensures, c .before .before .before .look .ensures)))
+    (λ c κs. search needs) (λ c κs. search needs) (λ c κs. search needs)
+    (λ c. simp (c .attempt .ensures, c .before .word-at .ensures, c .before .before .look .ensures)))

@@ -1,0 +1,4 @@
+pub mod Form
+pub mod Rules
+pub mod Crank
+pub mod Contracts

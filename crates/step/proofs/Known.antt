@@ -1,0 +1,20 @@
+-- An attempt at a line of the table of instruction words. Assumes nothing.
+use mathlib.Core.Path.{_≡_, refl, _∙_}
+use mathlib.Core.Bool.{Bool, true, false}
+use mathlib.Core.List.{List}
+use Prim.Native.Nat.{ℕ}
+use Rattle.word.specs.Word.{pick}
+use Rattle.qins.specs.declared.Op.{Op}
+use Rattle.qins.specs.declared.Op.the-variants.{None}
+use Rattle.step.specs.State.{State}
+use Rattle.step.specs.Step.{attempt}
+use Rattle.step.specs.declared.Direction.{Direction}
+use Rattle.step.specs.declared.Attempt.{Attempt}
+use Rattle.step.specs.declared.Attempt.the-variants.{Refused}
+
+-- where its test holds the operation is attempted, else no instruction is
+pub known-is : (t : List ℕ) (d : Direction) (s : State) (b : Bool) (op : Op) {x : Attempt}
+    → x ≡ pick b (attempt t d op s) (Refused 13) → x ≡ attempt t d (pick b op None) s
+unfolding attempt
+known-is t d s true op h = h
+known-is t d s false op h = h

@@ -1,0 +1,10 @@
+use borrow.Author.Needs.{needs}
+use Rattle.step.proofs.operation.fetch.Statement.{statement}
+use Rattle.step.proofs.operation.fetch.Tie as tie
+
+pub fetch-spec : {M : Type 1} → statement M
+fetch-spec =
+    tie.close
+    (tie.spec
+    (λ c κs. search needs) (λ c κs. search needs) (λ c κs. search needs) (λ c κs. search needs)
+    (λ c. simp (c .at-data .ensures, c .before .xor-word .ensures, c .before .before .word-at .ensures, c .before .before .before .look .ensures)))
