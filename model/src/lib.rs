@@ -1,5 +1,5 @@
 //! An independent model of the crank bench, with comparison tests and a
-//! benchmark against the proved static library.
+//! benchmark against the proved static libraries.
 
 pub mod asm;
 pub mod compare;

@@ -1,5 +1,5 @@
-//! The proved static library: its C calls and a safe wrapper that answers as
-//! the model does.
+//! The proved static libraries: their C calls and a safe wrapper that answers
+//! as the model does.
 
 use crate::machine::{Batch, Record};
 

@@ -59,10 +59,17 @@ fn named_words() {
 }
 
 #[test]
-fn every_structured_word_is_decoded() {
-    let mut valid = 0u64;
-    each_structured_word(|word| valid += u64::from(decode(word).is_some()));
-    assert!(valid > 0);
+fn structured_words_reach_both_sides_of_every_opcode() {
+    // Per opcode, the words that are an instruction and those that are not.
+    let mut counts = [[0u64; 2]; 256];
+    each_structured_word(|word| {
+        counts[(word >> 24) as usize][usize::from(decode(word).is_none())] += 1;
+    });
+    for (opcode, count) in counts.iter().enumerate() {
+        let listed = matches!(opcode, 1..=7 | 16..=27 | 32..=35);
+        assert_eq!(count[0] > 0, listed, "opcode {opcode}: {count:?}");
+        assert!(count[1] > 0 || !listed, "opcode {opcode}: {count:?}");
+    }
 }
 
 #[cfg(feature = "proved")]

@@ -41,7 +41,7 @@ fn load_refusal(file: &[u8], mem: &[u32], table: &[u32]) -> u32
 {
     let r = record_of(file);
     let words = r.m as usize <= mem.len();
-    let links = 9 * (r.n as usize) <= table.len();
+    let links = Record::NODE_WORDS * (r.n as usize) <= table.len();
     file_refusal(file, word::choose(!word::both(words, links), 6, 0))
 }
 
@@ -53,7 +53,7 @@ fn fill(image: &[u8], r: Record, mem: &mut [u32], table: &mut [u32])
         × (now (table .exit) ≡ filled (9 * r .n) (drop (4 * r .m) (now (image .entry))) (now (table .entry))) ⌝ }
 {
     let m = r.m as usize;
-    let links = 9 * (r.n as usize);
+    let links = Record::NODE_WORDS * (r.n as usize);
     let at = 4 * m;
     read_words(image, &mut mem[..m]);
     read_words(&image[at..], &mut table[..links]);
@@ -98,7 +98,7 @@ fn write_image(r: Record, mem: &[u32], table: &[u32], out: &mut [u8])
     ensures { λ _. ⌜ now (out .exit) ≡ imageBytes r (now (mem .entry)) (now (table .entry)) ++ drop (backOf r) (now (out .entry)) ⌝ }
 {
     let m = r.m as usize;
-    let links = 9 * (r.n as usize);
+    let links = Record::NODE_WORDS * (r.n as usize);
     let at = 4 * m;
     let end = at + 4 * links;
     write_words(&mem[..m], out);

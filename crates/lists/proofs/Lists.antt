@@ -13,7 +13,8 @@ use Rattle.step.specs.declared.Direction.{Direction}
 use Rattle.step.specs.declared.Direction.the-variants.{Forward, Back}
 use Rattle.step.specs.declared.Attempt.{Attempt}
 use Rattle.step.specs.State.{State, seen}
-use Rattle.machine.specs.Turn.{planned, number, turned}
+use Rattle.step.specs.Step.{number}
+use Rattle.machine.specs.Turn.{planned, turned}
 use Rattle.machine.specs.Calls.{Machine, machineOf, statusOf, recordOf, stateOf, planOf, stateAfter, turnOf, memoryOf, refusal, next, Leads}
 use Rattle.machine.specs.Batch.{after, Count, CountOf, batchOf, batchMemory}
 use Rattle.machine.specs.Claims.{Fitting}

@@ -12,9 +12,10 @@ use Rattle.step.specs.declared.Attempt.the-variants.{Refused, Does}
 use Rattle.step.specs.State.{State, Fits, seen, nodes, flip}
 use Rattle.step.proofs.Views.{seam-take, seam-drop, seam-long}
 use Rattle.step.proofs.Sized.{SameSizes, marked-sizes, stored-long}
-use Rattle.machine.specs.Turn.{from, planned, number, turned}
+use Rattle.step.specs.Step.{number}
+use Rattle.machine.specs.Turn.{from, planned, turned}
 use Rattle.machine.specs.Calls.{Machine, statusOf, recordOf, stateOf, planOf, stateAfter, refusal, next, Leads}
-use Rattle.machine.specs.Claims.{Fitting, Harmless, Earlier, Inverse, OneEarlier}
+use Rattle.machine.specs.Claims.{Fitting, Harmless, Inverse, Origin, OneOrigin}
 use Rattle.machine.proofs.Inverse.{Reversed, turn-back}
 use Rattle.machine.proofs.Sure.{Made, made, unmade}
 
@@ -111,15 +112,17 @@ leads-back table d x y g h =
 pub inverse : Inverse
 inverse = record { forward-back = λ table x y. leads-back table Forward x y; back-forward = λ table x y. leads-back table Back x y }
 
-pub one-earlier : OneEarlier
-one-earlier =
+pub one-origin : OneOrigin
+one-origin =
     record {
-      only = λ table y e e′. sym (yields table y e .1) ∙ yields table y e′ .1;
+      only = λ table d y e e′. sym (yields table d y e .1) ∙ yields table d y e′ .1;
       yields = yields;
-      exists = λ table y g h. (
-          let p = turn-home table Back y g h in
-          record { machine = next table Back y; fits = p .2; leads = (p .0, p .1) });
+      exists = exists;
     }
   where
-    yields : (table : List ℕ) (y : Machine) (e : Earlier table y) → Leads table Back y (e .machine)
-    yields table y e = leads-back table Forward (e .machine) y (e .fits) (e .leads)
+    yields : (table : List ℕ) (d : Direction) (y : Machine) (e : Origin table d y) → Leads table (flip d) y (e .machine)
+    yields table d y e = leads-back table d (e .machine) y (e .fits) (e .leads)
+
+    exists : (table : List ℕ) (d : Direction) (y : Machine) → Fitting y → refusal table (flip d) y ≡ 0 → Origin table d y
+    exists table Forward y g h = let p = turn-home table Back y g h in record { machine = next table Back y; fits = p .2; leads = (p .0, p .1) }
+    exists table Back y g h = let p = turn-home table Forward y g h in record { machine = next table Forward y; fits = p .2; leads = (p .0, p .1) }

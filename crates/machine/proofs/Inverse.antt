@@ -16,14 +16,14 @@ use Rattle.step.specs.declared.Status.{Status}
 use Rattle.step.specs.declared.Direction.{Direction}
 use Rattle.step.specs.declared.Direction.the-variants.{Forward, Back}
 use Rattle.step.specs.declared.Effect.{Effect}
-use Rattle.step.specs.declared.Effect.the-variants.{Nothing, Write, WriteTwo, Trade, Visit}
+use Rattle.step.specs.declared.Effect.the-variants.{Nothing, Write, WriteTwo, SwapWord, SetNode}
 use Rattle.step.specs.declared.Attempt.{Attempt}
 use Rattle.step.specs.declared.Attempt.the-variants.{Refused, Does}
 use Rattle.step.specs.State.{State, Words, Fits, reg, flip}
 use Rattle.step.specs.Step.{shifted, marked, written, stored, performed, refuse, attempt}
 use Rattle.step.proofs.Sized.{SameSizes, marked-sizes, written-long, stored-long}
 use Rattle.step.proofs.Undo.{Fair, Undone, undone, refused-no, inside, passed, set-back, words-set, shifted-word, shifted-back}
-use Rattle.machine.specs.Turn.{pc, br, atPc, stride, movedPc, fromPc, toPc, from, to, isCode, starts, finishes, calmly, badSizes, nextPc, nextOf, landed, judged, executed, planned, turned}
+use Rattle.machine.specs.Turn.{pc, br, atPc, stride, movedPc, fromPc, toPc, from, to, isCode, starts, finishes, isReady, badSizes, nextPc, nextOf, landed, judged, executed, planned, turned}
 
 -- ---- pc's moves
 
@@ -111,14 +111,14 @@ kept (WriteTwo a v b x) s f g =
       code = λ j h. refl;
       fits = put-fits (record { at = s .at; regs = set (s .regs) a v; memory = s .memory }) b x (f .3) (put-fits s a v (f .1) g);
     }
-kept (Trade a i) s f g =
+kept (SwapWord a i) s f g =
     let q = put-fits s a (getD (s .memory) i 0) (g .words i) g in
     record {
       pc = getD-set-other (s .regs) a 0 (getD (s .memory) i 0) 0 (omega (arith, f .0));
       code = λ j h. getD-set-other (s .memory) i j (reg s a) 0 (omega (arith, f .1));
       fits = record { sixteen = q .sixteen; regs = q .regs; words = words-set (s .memory) i (reg s a) (g .regs a) (g .words) };
     }
-kept (Visit u j) s f g = record { pc = refl; code = λ j h. refl; fits = record { sixteen = g .sixteen; regs = g .regs; words = g .words } }
+kept (SetNode u j) s f g = record { pc = refl; code = λ j h. refl; fits = record { sixteen = g .sixteen; regs = g .regs; words = g .words } }
 
 -- ---- the tests of a turn, both ways
 
@@ -128,7 +128,7 @@ edge Forward e s = to Forward (performed e (from Forward s))
 edge Back e s = s
 
 abbrev starting : State → List ℕ → Bool
-starting s l = calmly (s .at) && starts (s .at) l (pc s)
+starting s l = isReady (s .at) && starts (s .at) l (pc s)
 
 record Accepted (t : List ℕ) (d : Direction) (s : State) (e : Effect) : Type 0 where
   sizes : badSizes (s .at) (s .memory) t ≡ false
@@ -153,7 +153,7 @@ landed-does s (Does f) {e} g h =
 
 -- a finish is not undone: waiting there is refused by 14, else 18 comes
 no-finish : (t : List ℕ) (d : Direction) (s : State) {e : Effect} → executed t d s ≡ Does e
-    → calmly (s .at) && finishes (s .memory) (pc s) ≡ false → finishes (s .memory) (pc s) ≡ false
+    → isReady (s .at) && finishes (s .memory) (pc s) ≡ false → finishes (s .memory) (pc s) ≡ false
 unfolding attempt decode operation line
 no-finish t d s {e} h k = go (finishes (s .memory) (pc s)) refl
   where
@@ -162,7 +162,7 @@ no-finish t d s {e} h k = go (finishes (s .memory) (pc s)) refl
     go true z =
         let q : attempt t d (decode finishWord) s ≡ Does e =
         ap (λ (w : ℕ). attempt t d (decode w) s) (sym (eqb-true (getD (s .memory) (pc s) 0) finishWord z)) ∙ h in
-        let c = not-not (calmly (s .at)) (passed (not (calmly (s .at))) 14 _ q .0) in
+        let c = not-not (isReady (s .at)) (passed (not (isReady (s .at))) 14 _ q .0) in
         absurd (true≢false (rw (c, z) at k))
 
 accepted : (t : List ℕ) (d : Direction) (s : State) {e : Effect} → Fits s → planned t d s ≡ Does e → Accepted t d s e
@@ -177,7 +177,7 @@ accepted t Back s g h =
     let p = passed (badSizes (s .at) (s .memory) t) 10 _ h in
     let f = passed (starting s (s .memory)) 12 _ (p .1) in
     let q = passed (not (isCode (s .at) (pc (from Back s)))) 11 _ (f .1) in
-    let r = passed (calmly (s .at) && finishes (s .memory) (pc (from Back s))) 18 _ (q .1) in
+    let r = passed (isReady (s .at) && finishes (s .memory) (pc (from Back s))) 18 _ (q .1) in
     record { sizes = p .0; free = f .0; code = q .0; running = no-finish t Back (from Back s) (r .1) (r .0); does = r .1 }
 
 and-false : (b : Bool) → b && false ≡ false
@@ -187,7 +187,7 @@ and-false false = refl
 accepts : (t : List ℕ) (d : Direction) (s : State) {e : Effect} → Fits s → Accepted t d s e → planned t d s ≡ Does e
 unfolding judged refuse
 accepts t Forward s {e} g a = rw (a .sizes, a .code, a .running, a .does, landing e (from Forward s) (fits-from s g Forward), a .free)
-accepts t Back s g a = rw (a .sizes, a .free, a .code, a .running, and-false (calmly (s .at))) (a .does)
+accepts t Back s g a = rw (a .sizes, a .free, a .code, a .running, and-false (isReady (s .at))) (a .does)
 
 -- ---- the law
 
@@ -207,7 +207,7 @@ same-sizes t at at′ l l′ z e = rw (z .k, z .m, z .n, e)
 
 -- starting looks at the code alone
 same-start : (s : State) (l l′ : List ℕ) → ((j : ℕ) → j < s .at .k → getD l′ j 0 ≡ getD l j 0) → starting s l′ ≡ starting s l
-same-start s l l′ c = ap (λ (x : Bool). calmly (s .at) && x) (go (isCode (s .at) (pc s)) refl)
+same-start s l l′ c = ap (λ (x : Bool). isReady (s .at) && x) (go (isCode (s .at) (pc s)) refl)
   where
     go : (b : Bool) → isCode (s .at) (pc s) ≡ b
         → isCode (s .at) (pc s) && eqb (getD l′ (pc s) 0) startWord ≡ isCode (s .at) (pc s) && eqb (getD l (pc s) 0) startWord

@@ -17,9 +17,9 @@ use Rattle.step.specs.declared.Effect.{Effect}
 use Rattle.step.specs.declared.Attempt.{Attempt}
 use Rattle.step.specs.declared.Attempt.the-variants.{Refused, Does}
 use Rattle.step.specs.State.{State}
-use Rattle.step.specs.Step.{refuse, child, enter, qif, pass, fiq, attempt}
+use Rattle.step.specs.Step.{refuse, child, enter, qif, pass, fiq, attempt, number}
 use Rattle.step.proofs.Undo.{passed}
-use Rattle.machine.specs.Turn.{from, nextPc, nextOf, landed, judged, executed, planned, number, turned}
+use Rattle.machine.specs.Turn.{from, nextPc, nextOf, landed, judged, executed, planned, turned}
 
 abbrev Sure : Attempt → Type 0
 Sure (Refused n) = 0 < n

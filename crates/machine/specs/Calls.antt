@@ -7,7 +7,8 @@ use Rattle.step.specs.declared.Status.{Status}
 use Rattle.step.specs.declared.Direction.{Direction}
 use Rattle.step.specs.declared.Attempt.{Attempt}
 use Rattle.step.specs.State.{State, seen, nodes}
-use Rattle.machine.specs.Turn.{planned, number, turned}
+use Rattle.step.specs.Step.{number}
+use Rattle.machine.specs.Turn.{planned, turned}
 use Rattle.machine.specs.declared.Record.{Record}
 use Rattle.machine.specs.declared.Turned.{Turned}
 

@@ -6,31 +6,32 @@ use mathlib.Core.List.{List}
 use lib.ListN.{drop}
 use Rattle.step.specs.declared.Direction.{Direction}
 use Rattle.step.specs.declared.Direction.the-variants.{Forward, Back}
-use Rattle.step.specs.State.{Fits}
+use Rattle.step.specs.State.{Fits, flip}
 use Rattle.machine.specs.Calls.{Machine, stateOf, refusal, next, Leads}
 
 -- the one assumption, which the types give: sixteen registers, and words of 32 bits
 abbrev pub Fitting : Machine → Type 0
 Fitting x = Fits (stateOf (x .state) (x .memory))
 
--- Demand 1: a refused turn changes nothing, and no turn touches the excess
+-- a refused turn changes nothing, and no turn touches the excess
 pub record Harmless : Type 0 where
   pub refused : (table : List ℕ) (d : Direction) (x : Machine) → refusal table d x ≢ 0 → next table d x ≡ x
   pub excess : (table : List ℕ) (d : Direction) (x : Machine) → drop (x .state .m) (next table d x .memory) ≡ drop (x .state .m) (x .memory)
-
--- a state from which a forward turn leads to y
-pub record Earlier (table : List ℕ) (y : Machine) : Type 0 where
-  pub machine : Machine
-  pub fits : Fitting machine
-  pub leads : Leads table Forward machine y
 
 -- Demand 2: the two turns undo each other
 pub record Inverse : Type 0 where
   pub forward-back : (table : List ℕ) (x y : Machine) → Fitting x → Leads table Forward x y → Leads table Back y x
   pub back-forward : (table : List ℕ) (x y : Machine) → Fitting x → Leads table Back x y → Leads table Forward y x
 
--- so the earlier state is the only one, and it is the one that a back turn yields; back is accepted exactly where there is one
-pub record OneEarlier : Type 0 where
-  pub only : (table : List ℕ) (y : Machine) (e e′ : Earlier table y) → e .machine ≡ e′ .machine
-  pub yields : (table : List ℕ) (y : Machine) (e : Earlier table y) → Leads table Back y (e .machine)
-  pub exists : (table : List ℕ) (y : Machine) → Fitting y → refusal table Back y ≡ 0 → Earlier table y
+-- a state from which a turn this way leads to y: forward, an earlier state
+pub record Origin (table : List ℕ) (d : Direction) (y : Machine) : Type 0 where
+  pub machine : Machine
+  pub fits : Fitting machine
+  pub leads : Leads table d machine y
+
+-- So the earlier state is the only one, it is the one that a back turn yields, and back is accepted exactly where there is one;
+-- and the same with the directions exchanged.
+pub record OneOrigin : Type 0 where
+  pub only : (table : List ℕ) (d : Direction) (y : Machine) (e e′ : Origin table d y) → e .machine ≡ e′ .machine
+  pub yields : (table : List ℕ) (d : Direction) (y : Machine) (e : Origin table d y) → Leads table (flip d) y (e .machine)
+  pub exists : (table : List ℕ) (d : Direction) (y : Machine) → Fitting y → refusal table (flip d) y ≡ 0 → Origin table d y

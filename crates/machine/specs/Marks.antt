@@ -27,7 +27,7 @@ abbrev pub Hold : List Mark → Type 0
 Hold [] = Unit {0}
 Hold (m ∷ rest) = (observed (m .way) (m .table) (after (m .table) (m .way) (m .before) (m .machine)) ≡ m .shows) × Hold rest
 
--- pc, br, r1 and r2; r3 is 0; the node; K; the memory, of M words; N
+-- pc, br, r1 and r2, with r3 0; the node; K, M and N; the memory
 abbrev pub at : ℕ → ℕ → ℕ → ℕ → ℕ → ℕ → ℕ → ℕ → List ℕ → Machine
 at pc br a b node k m n l =
     record {

@@ -62,8 +62,8 @@ starts at l i = isCode at i && eqb (getD l i 0) startWord
 abbrev pub finishes : List ℕ → ℕ → Bool
 finishes l i = eqb (getD l i 0) finishWord
 
-abbrev pub calmly : Status → Bool
-calmly at = eqb (at .qifw) 0
+abbrev pub isReady : Status → Bool
+isReady at = eqb (at .qifw) 0
 
 -- sizes out of range, or the lent memory l or table t too short
 unfoldable pub badSizes : Status → List ℕ → List ℕ → Bool
@@ -101,9 +101,9 @@ judged t Forward old new s a =
     (landed s new a)))
 judged t Back old new s a =
     refuse (badSizes (s .at) (s .memory) t) 10
-    (refuse (calmly (s .at) && starts (s .at) (s .memory) old) 12
+    (refuse (isReady (s .at) && starts (s .at) (s .memory) old) 12
     (refuse (not (isCode (s .at) (pc s))) 11
-    (refuse (calmly (s .at) && finishes (s .memory) (pc s)) 18
+    (refuse (isReady (s .at) && finishes (s .memory) (pc s)) 18
     a)))
 
 -- what a turn would do, or why it is refused
@@ -113,11 +113,6 @@ executed t d s = attempt t d (decode (getD (s .memory) (pc s) 0)) s
 abbrev pub planned : List ℕ → Direction → State → Attempt
 planned t d s =
     judged t d (pc s) (nextOf d (executed t d (from d s)) (from d s)) (from d s) (executed t d (from d s))
-
--- 0 is no refusal
-abbrev pub number : Attempt → ℕ
-number (Refused n) = n
-number (Does e) = 0
 
 -- the state after the turn, the old one where it is refused
 abbrev pub turned : Direction → Attempt → State → State

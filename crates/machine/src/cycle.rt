@@ -6,9 +6,9 @@ ghost use mathlib.Core.List.{_++_};
 ghost use lib.Dec.{eqb};
 ghost use lib.ListN.{take, drop, set};
 ghost use Rattle.step.specs.State.{State, seen, nodes, reg};
-ghost use Rattle.step.specs.Step.{marked, written, stored, performed};
+ghost use Rattle.step.specs.Step.{marked, written, stored, performed, number};
 ghost use Rattle.step.specs.declared.Direction.{Direction};
-ghost use Rattle.machine.specs.Turn.{movedPc, fromPc, toPc, from, to, starts, finishes, badSizes, nextOf, landed, judged, executed, planned, number, turned};
+ghost use Rattle.machine.specs.Turn.{movedPc, fromPc, toPc, from, to, starts, finishes, badSizes, nextOf, landed, judged, executed, planned, turned};
 use crate::Record;
 use step::Attempt;
 use step::Direction;
@@ -36,7 +36,7 @@ fn moved_pc(d: Direction, wait: u32, pc: u32, br: u32) -> u32
 {
     word::choose(
         wait == 0,
-        step::operand::shift(d, pc, word::choose(br == 0, 1, br)),
+        step::reverse::shift(d, pc, word::choose(br == 0, 1, br)),
         pc,
     )
 }
@@ -81,7 +81,7 @@ pub fn are_bad_sizes(at: Status, mem: &[u32], table: &[u32]) -> bool
     ensures { λ r. ⌜ r ≡ badSizes at (take (at .m) (now (mem .entry))) (nodes at (now (table .entry))) ⌝ }
 {
     let words = at.m as usize <= mem.len();
-    let links = 9 * (at.n as usize) <= table.len();
+    let links = Record::NODE_WORDS * (at.n as usize) <= table.len();
     let lent = word::both(at.n <= Record::MAX_NODES, word::both(words, links));
     !word::both(
         0 < at.k,
@@ -131,10 +131,10 @@ fn judge(
             refused_if(sizes, 10, refused_if(!(pc < at.k), 11, b))
         }
         Direction::Back => {
-            let calm = at.qifw == 0;
-            let b = refused_if(word::both(calm, finish), 18, a);
+            let ready = at.qifw == 0;
+            let b = refused_if(word::both(ready, finish), 18, a);
             let c = refused_if(!(pc < at.k), 11, b);
-            let start = word::both(calm, is_start(at, mem, old));
+            let start = word::both(ready, is_start(at, mem, old));
             refused_if(sizes, 10, refused_if(start, 12, c))
         }
     }

@@ -46,7 +46,7 @@ impl Record {
 
     pub const MAX_NODES: u32 = 511;
     // The words of a node.
-    pub const NODE_WORDS: u32 = 9;
+    pub const NODE_WORDS: usize = 9;
 
     pub fn zero() -> Record
         ensures { λ r. ⌜ r ≡ zeros ⌝ }

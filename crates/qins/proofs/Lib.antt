@@ -1,3 +1,3 @@
 pub mod Formed
 pub mod Listed
-pub mod Marks
+pub mod OneWord

@@ -1,5 +1,5 @@
 // The lesson bench: one record, lent by `&mut`, that each crank call alters for its caller. A call
-// takes it apart, makes the covered turn or batch, puts the new record back and answers.
+// takes it apart, makes the turn or batch by value, puts the new record back and answers.
 ghost use mathlib.Core.Path.{_≡_};
 ghost use Rattle.step.specs.declared.Direction.{Direction};
 ghost use Rattle.machine.specs.Calls.{turnOf, memoryOf};

@@ -19,12 +19,12 @@ use Rattle.qins.specs.declared.Source.the-variants.{Imm, Reg, Negated, Compleme
 use Rattle.qins.proofs.Formed.{Named, Apart, Formed}
 use Rattle.step.specs.State.{State, Words, Fits, reg, flip}
 use Rattle.step.specs.Table.{fc, lc, cf, cl, nx, pr, w, isNode, link, paired}
-use Rattle.step.specs.Step.{written, stored, marked, performed, value, shifted, refuse, calm, isData, child, enter, qif, pass, fiq, attempt}
+use Rattle.step.specs.Step.{written, stored, marked, performed, value, shifted, refuse, ready, isData, child, enter, qif, pass, fiq, attempt}
 use Rattle.step.specs.declared.Status.{Status}
 use Rattle.step.specs.declared.Direction.{Direction}
 use Rattle.step.specs.declared.Direction.the-variants.{Forward, Back}
 use Rattle.step.specs.declared.Effect.{Effect}
-use Rattle.step.specs.declared.Effect.the-variants.{Nothing, Write, WriteTwo, Trade, Visit}
+use Rattle.step.specs.declared.Effect.the-variants.{Nothing, Write, WriteTwo, SwapWord, SetNode}
 use Rattle.step.specs.declared.Attempt.{Attempt}
 use Rattle.step.specs.declared.Attempt.the-variants.{Refused, Does}
 
@@ -33,8 +33,8 @@ abbrev pub Fair : Effect → Status → Type 0
 Fair Nothing at = Unit {0}
 Fair (Write a v) at = (0 < a) × (v < 2 ^ 32)
 Fair (WriteTwo a v b x) at = (0 < a) × (v < 2 ^ 32) × (0 < b) × (x < 2 ^ 32)
-Fair (Trade a i) at = (0 < a) × (at .k ≤ i)
-Fair (Visit u j) at = Unit {0}
+Fair (SwapWord a i) at = (0 < a) × (at .k ≤ i)
+Fair (SetNode u j) at = Unit {0}
 
 -- the effect that the operation has the other way, after e, and that it leads home
 pub record Undone (t : List ℕ) (d : Direction) (o : Op) (s : State) (e : Effect) : Type 0 where
@@ -139,8 +139,8 @@ module _ (t : List ℕ) (s : State) (g : Fits s) (room : s .at .m ≤ length (s 
   read : (a v : ℕ) → a < 16 → getD (set (s .regs) a v) a 0 ≡ v
   read a v h = getD-set-same (s .regs) a v 0 (in-regs a h)
 
-  calmed : (x : Attempt) {e : Effect} → calm at x ≡ Does e → (not (eqb (at .qifw) 0) ≡ false) × (x ≡ Does e)
-  calmed x h = passed (not (eqb (at .qifw) 0)) 14 x h
+  was-ready : (x : Attempt) {e : Effect} → ready at x ≡ Does e → (not (eqb (at .qifw) 0) ≡ false) × (x ≡ Does e)
+  was-ready x h = passed (not (eqb (at .qifw) 0)) 14 x h
 
   -- a register changed by f, and changed back by f′
   change : (d : Direction) (o : Op) (a : ℕ) (f f′ : ℕ → ℕ) → Named a → f (reg s a) < 2 ^ 32 → f′ (f (reg s a)) ≡ reg s a
@@ -196,10 +196,10 @@ module _ (t : List ℕ) (s : State) (g : Fits s) (room : s .at .m ≤ length (s 
 
   -- ---- qif and fiq set the node and the wait count
 
-  visit : (d : Direction) (o : Op) (u j v i : ℕ) → attempt t (flip d) o (performed (Visit u j) s) ≡ Does (Visit v i) → v ≡ at .qifv → i ≡ at .qifw
-      → {e : Effect} → Does (Visit u j) ≡ Does e → Undone t d o s e
+  visit : (d : Direction) (o : Op) (u j v i : ℕ) → attempt t (flip d) o (performed (SetNode u j) s) ≡ Does (SetNode v i) → v ≡ at .qifv → i ≡ at .qifw
+      → {e : Effect} → Does (SetNode u j) ≡ Does e → Undone t d o s e
   visit d o u j v i does p q h =
-      subst (Undone t d o s) (inside h) (record { by = Visit v i; does = does; home = rw (p, q); fair = tt })
+      subst (Undone t d o s) (inside h) (record { by = SetNode v i; does = does; home = rw (p, q); fair = tt })
 
   qif-forward : (a : ℕ) → ltb 1 (reg s a) ≡ false → {e : Effect} → qif t Forward at (reg s a) ≡ Does e → Undone t Forward (Qif a) s e
   unfolding refuse attempt qif child enter
@@ -218,7 +218,7 @@ module _ (t : List ℕ) (s : State) (g : Fits s) (room : s .at .m ≤ length (s 
       most = link t (at .n) (at .qifv) w
 
       go : (b : Bool) → eqb (at .qifw) 0 ≡ b
-          → pick b (enter t at x u) (child t at x v (Does (Visit (at .qifv) (at .qifw - 1)))) ≡ Does e → Undone t Forward (Qif a) s e
+          → pick b (enter t at x u) (child t at x v (Does (SetNode (at .qifv) (at .qifw - 1)))) ≡ Does e → Undone t Forward (Qif a) s e
       go true z h =
           let p = passed (not (paired t (at .n) (at .qifv) x u cf)) 17 _ h in
           let home = pair t (at .n) (at .qifv) x u cf (not-not _ (p .0)) .home in
@@ -249,7 +249,7 @@ module _ (t : List ℕ) (s : State) (g : Fits s) (room : s .at .m ≤ length (s 
       most = link t (at .n) (at .qifv) w
 
       go : not (paired t (at .n) v x (at .qifv) cf) ≡ false → at .qifw ≤ most → (b : Bool) → ltb (at .qifw) most ≡ b
-          → Does (pick b (Visit (at .qifv) (at .qifw + 1)) (Visit v 0)) ≡ Does e → Undone t Back (Qif a) s e
+          → Does (pick b (SetNode (at .qifv) (at .qifw + 1)) (SetNode v 0)) ≡ Does e → Undone t Back (Qif a) s e
       go linked l true z h =
           let less = ltb-true (at .qifw) most z in
           visit Back (Qif a) (at .qifv) (at .qifw + 1) (at .qifv) (at .qifw + 1 - 1)
@@ -269,18 +269,18 @@ module _ (t : List ℕ) (s : State) (g : Fits s) (room : s .at .m ≤ length (s 
   fiq-undone : (d : Direction) (a : ℕ) → not (eqb (at .qifw) 0) ≡ false → ltb 1 (reg s a) ≡ false
       → {e : Effect} → fiq t d at (reg s a) ≡ Does e → Undone t d (Fiq a) s e
   unfolding refuse attempt fiq pass
-  fiq-undone Forward a calm coin h =
+  fiq-undone Forward a ready coin h =
       let p = link t (at .n) (at .qifv) cl in
       let u = link t (at .n) p nx in
       let q = passed (not (paired t (at .n) p (lc (reg s a)) (at .qifv) cl && paired t (at .n) p nx u pr)) 17 _ h in
       let l = fiq-links p (at .qifv) u (reg s a) (q .0) in
-      visit Forward (Fiq a) u (at .qifw) (at .qifv) (at .qifw) (rw (calm, coin, l .1 .home, l .0 .there, q .0)) refl refl (q .1)
-  fiq-undone Back a calm coin h =
+      visit Forward (Fiq a) u (at .qifw) (at .qifv) (at .qifw) (rw (ready, coin, l .1 .home, l .0 .there, q .0)) refl refl (q .1)
+  fiq-undone Back a ready coin h =
       let p = link t (at .n) (at .qifv) pr in
       let v = link t (at .n) p (lc (reg s a)) in
       let q = passed (not (paired t (at .n) p (lc (reg s a)) v cl && paired t (at .n) p nx (at .qifv) pr)) 17 _ h in
       let l = fiq-links p v (at .qifv) (reg s a) (q .0) in
-      visit Back (Fiq a) v (at .qifw) (at .qifv) (at .qifw) (rw (calm, coin, l .0 .home, l .1 .there, q .0)) refl refl (q .1)
+      visit Back (Fiq a) v (at .qifw) (at .qifv) (at .qifw) (rw (ready, coin, l .0 .home, l .1 .there, q .0)) refl refl (q .1)
 
   qif-undone : (d : Direction) (a : ℕ) → ltb 1 (reg s a) ≡ false → {e : Effect} → qif t d at (reg s a) ≡ Does e → Undone t d (Qif a) s e
   qif-undone Forward a coin h = qif-forward a coin h
@@ -293,48 +293,48 @@ module _ (t : List ℕ) (s : State) (g : Fits s) (room : s .at .m ≤ length (s 
   pub undone : (d : Direction) (o : Op) → Formed o → {e : Effect} → attempt t d o s ≡ Does e → Undone t d o s e
   unfolding refuse attempt
   undone d None f h = absurd (refused-no h)
-  undone d Start f h = let p = calmed _ h in nothing d Start (rw (p .0)) (p .1)
-  undone d Finish f h = let p = calmed _ h in nothing d Finish (rw (p .0)) (p .1)
+  undone d Start f h = let p = was-ready _ h in nothing d Start (rw (p .0)) (p .1)
+  undone d Finish f h = let p = was-ready _ h in nothing d Finish (rw (p .0)) (p .1)
   undone d (Xor a v) f h =
-      let p = calmed _ h in
+      let p = was-ready _ h in
       let y = value v (s .regs) in
       change d (Xor a v) a (λ x. bitXor x y) (λ x. bitXor x y) (f .0) (xor-lt 32 (reg s a) y (g .regs a) (value-word v (s .regs) a (f .1) (g .regs)))
       (xor-again (reg s a) y) (rw (p .0, apart (s .regs) a (bitXor (reg s a) y) v (f .1))) (p .1)
   undone d (Add a v) f h =
-      let p = calmed _ h in
+      let p = was-ready _ h in
       let y = value v (s .regs) in
       change d (Add a v) a (λ x. shifted d x y) (λ x. shifted (flip d) x y) (f .0) (shifted-word d (reg s a) y)
       (shifted-back d (reg s a) y (g .regs a) (value-word v (s .regs) a (f .1) (g .regs)))
       (rw (p .0, apart (s .regs) a (shifted d (reg s a) y) v (f .1))) (p .1)
   undone d (Sub a v) f h =
-      let p = calmed _ h in
+      let p = was-ready _ h in
       let y = value v (s .regs) in
       change d (Sub a v) a (λ x. shifted (flip d) x y) (λ x. shifted (flip (flip d)) x y) (f .0) (shifted-word (flip d) (reg s a) y)
       (shifted-back (flip d) (reg s a) y (g .regs a) (value-word v (s .regs) a (f .1) (g .regs)))
       (rw (p .0, apart (s .regs) a (shifted (flip d) (reg s a) y) v (f .1))) (p .1)
   undone d (Neg a) f h =
-      let p = calmed _ h in
+      let p = was-ready _ h in
       change d (Neg a) a (λ x. subWord 0 x) (λ x. subWord 0 x) f (sub-word 0 (reg s a)) (neg-neg (reg s a) (g .regs a)) (rw (p .0)) (p .1)
   undone d (Swap a b) f h =
-      let p = calmed _ h in
+      let p = was-ready _ h in
       change-two d (Swap a b) a b (λ x y. y) f (λ x y hx hy. hy) (λ x y. refl) (λ l. rw (p .0)) (p .1)
   undone d (SwapBits a b) f h =
-      let p = calmed _ h in
+      let p = was-ready _ h in
       change-two d (SwapBits a b) a b withBit f (λ x y hx hy. bit-word x y hx) bit-back (λ l. rw (p .0)) (p .1)
   undone d (Fetch a b) f h =
-      let p = calmed _ h in
+      let p = was-ready _ h in
       let q = passed (not (isData at (reg s b))) 15 _ (p .1) in
       let y = getD (s .memory) (reg s b) 0 in
       change d (Fetch a b) a (λ x. bitXor x y) (λ x. bitXor x y) (f .0) (xor-lt 32 (reg s a) y (g .regs a) (g .words (reg s b)))
       (xor-again (reg s a) y) (rw (p .0, getD-set-other (s .regs) a b (bitXor (reg s a) y) 0 (f .1), q .0)) (q .1)
   undone d (Exchange a v) f h =
-      let p = calmed _ h in
+      let p = was-ready _ h in
       let i = value v (s .regs) in
       let q = passed (not (isData at i)) 15 _ (p .1) in
       let l = data-in i (q .0) in
       subst (Undone t d (Exchange a v) s) (inside (q .1))
       (record {
-        by = Trade a i;
+        by = SwapWord a i;
         does = rw (p .0, apart (s .regs) a (getD (s .memory) i 0) v (f .1), q .0);
         home =
             rw (
@@ -345,6 +345,6 @@ module _ (t : List ℕ) (s : State) (g : Fits s) (room : s .at .m ≤ length (s 
       })
   undone d (Qif a) f h = let p = passed (ltb 1 (reg s a)) 16 _ h in qif-undone d a (p .0) (p .1)
   undone d (Fiq a) f h =
-      let p = calmed _ h in
+      let p = was-ready _ h in
       let q = passed (ltb 1 (reg s a)) 16 _ (p .1) in
       fiq-undone d a (p .0) (q .0) (q .1)

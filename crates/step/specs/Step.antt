@@ -16,7 +16,7 @@ use Rattle.step.specs.declared.Status.{Status}
 use Rattle.step.specs.declared.Direction.{Direction}
 use Rattle.step.specs.declared.Direction.the-variants.{Forward, Back}
 use Rattle.step.specs.declared.Effect.{Effect}
-use Rattle.step.specs.declared.Effect.the-variants.{Nothing, Write, WriteTwo, Trade, Visit}
+use Rattle.step.specs.declared.Effect.the-variants.{Nothing, Write, WriteTwo, SwapWord, SetNode}
 use Rattle.step.specs.declared.Attempt.{Attempt}
 use Rattle.step.specs.declared.Attempt.the-variants.{Refused, Does}
 
@@ -27,24 +27,24 @@ abbrev pub written : Effect → List ℕ → List ℕ → List ℕ
 written Nothing l m = l
 written (Write a v) l m = set l a v
 written (WriteTwo a v b x) l m = set (set l a v) b x
-written (Trade a i) l m = set l a (getD m i 0)
-written (Visit u j) l m = l
+written (SwapWord a i) l m = set l a (getD m i 0)
+written (SetNode u j) l m = l
 
 -- the memory after it
 abbrev pub stored : Effect → List ℕ → List ℕ → List ℕ
 stored Nothing l m = m
 stored (Write a v) l m = m
 stored (WriteTwo a v b x) l m = m
-stored (Trade a i) l m = set m i (getD l a 0)
-stored (Visit u j) l m = m
+stored (SwapWord a i) l m = set m i (getD l a 0)
+stored (SetNode u j) l m = m
 
 -- the node and the wait count after it
 abbrev pub marked : Effect → Status → Status
 marked Nothing at = at
 marked (Write a v) at = at
 marked (WriteTwo a v b x) at = at
-marked (Trade a i) at = at
-marked (Visit u j) at = record { qifv = u; qifw = j; k = at .k; m = at .m; n = at .n }
+marked (SwapWord a i) at = at
+marked (SetNode u j) at = record { qifv = u; qifw = j; k = at .k; m = at .m; n = at .n }
 
 abbrev pub performed : Effect → State → State
 performed e s =
@@ -74,14 +74,19 @@ shifted Back x v = subWord x v
 
 -- ---- refusals, each by its number
 
+-- the paper's number for each case of an attempt; 0 is no refusal
+abbrev pub number : Attempt → ℕ
+number (Refused n) = n
+number (Does e) = 0
+
 -- refused by the number where the test holds, else the rest
 unfoldable pub refuse : Bool → ℕ → Attempt → Attempt
 refuse true n rest = Refused n
 refuse false n rest = rest
 
 -- 14 while waiting
-abbrev pub calm : Status → Attempt → Attempt
-calm at rest = refuse (not (eqb (at .qifw) 0)) 14 rest
+abbrev pub ready : Status → Attempt → Attempt
+ready at rest = refuse (not (eqb (at .qifw) 0)) 14 rest
 
 -- 15 for an address not in K to M-1
 abbrev pub isData : Status → ℕ → Bool
@@ -99,7 +104,7 @@ isCoin x rest = refuse (ltb 1 x) 16 rest
 module _ (t : List ℕ) where
   -- qif: from v to u, its first child
   unfoldable pub enter : Status → ℕ → ℕ → Attempt
-  enter at x u = refuse (not (paired t (at .n) (at .qifv) (fc x) u cf)) 17 (Does (Visit u (link t (at .n) u w)))
+  enter at x u = refuse (not (paired t (at .n) (at .qifv) (fc x) u cf)) 17 (Does (SetNode u (link t (at .n) u w)))
 
   -- the present node is v's first child, and the wait count is at most its w
   unfoldable pub child : Status → ℕ → ℕ → Attempt → Attempt
@@ -111,15 +116,15 @@ module _ (t : List ℕ) where
   qif Forward at x =
       pick (eqb (at .qifw) 0)
       (enter at x (link t (at .n) (at .qifv) (fc x)))
-      (child at x (link t (at .n) (at .qifv) cf) (Does (Visit (at .qifv) (at .qifw - 1))))
+      (child at x (link t (at .n) (at .qifv) cf) (Does (SetNode (at .qifv) (at .qifw - 1))))
   qif Back at x =
       child at x (link t (at .n) (at .qifv) cf)
-      (Does (pick (ltb (at .qifw) (link t (at .n) (at .qifv) w)) (Visit (at .qifv) (at .qifw + 1)) (Visit (link t (at .n) (at .qifv) cf) 0)))
+      (Does (pick (ltb (at .qifw) (link t (at .n) (at .qifv) w)) (SetNode (at .qifv) (at .qifw + 1)) (SetNode (link t (at .n) (at .qifv) cf) 0)))
 
   -- fiq: v is p's last child and u is next to p; it leads to the node y, one of the two
   unfoldable pub pass : Status → ℕ → ℕ → ℕ → ℕ → ℕ → Attempt
   pass at x v p u y =
-      refuse (not (paired t (at .n) p (lc x) v cl && paired t (at .n) p nx u pr)) 17 (Does (Visit y (at .qifw)))
+      refuse (not (paired t (at .n) p (lc x) v cl && paired t (at .n) p nx u pr)) 17 (Does (SetNode y (at .qifw)))
 
   unfoldable pub fiq : Direction → Status → ℕ → Attempt
   fiq Forward at x =
@@ -135,15 +140,15 @@ module _ (t : List ℕ) where
 
   unfoldable pub attempt : Direction → Op → State → Attempt
   attempt d None s = Refused 13
-  attempt d Start s = calm (s .at) (Does Nothing)
-  attempt d Finish s = calm (s .at) (Does Nothing)
-  attempt d (Xor a v) s = calm (s .at) (Does (Write a (bitXor (reg s a) (value v (s .regs)))))
-  attempt d (Add a v) s = calm (s .at) (Does (Write a (shifted d (reg s a) (value v (s .regs)))))
-  attempt d (Sub a v) s = calm (s .at) (Does (Write a (shifted (flip d) (reg s a) (value v (s .regs)))))
-  attempt d (Neg a) s = calm (s .at) (Does (Write a (subWord 0 (reg s a))))
-  attempt d (Swap a b) s = calm (s .at) (Does (WriteTwo a (reg s b) b (reg s a)))
-  attempt d (SwapBits a b) s = calm (s .at) (Does (WriteTwo a (withBit (reg s a) (reg s b)) b (withBit (reg s b) (reg s a))))
-  attempt d (Fetch a b) s = calm (s .at) (inData (s .at) (reg s b) (Does (Write a (bitXor (reg s a) (getD (s .memory) (reg s b) 0)))))
-  attempt d (Exchange a v) s = calm (s .at) (inData (s .at) (value v (s .regs)) (Does (Trade a (value v (s .regs)))))
+  attempt d Start s = ready (s .at) (Does Nothing)
+  attempt d Finish s = ready (s .at) (Does Nothing)
+  attempt d (Xor a v) s = ready (s .at) (Does (Write a (bitXor (reg s a) (value v (s .regs)))))
+  attempt d (Add a v) s = ready (s .at) (Does (Write a (shifted d (reg s a) (value v (s .regs)))))
+  attempt d (Sub a v) s = ready (s .at) (Does (Write a (shifted (flip d) (reg s a) (value v (s .regs)))))
+  attempt d (Neg a) s = ready (s .at) (Does (Write a (subWord 0 (reg s a))))
+  attempt d (Swap a b) s = ready (s .at) (Does (WriteTwo a (reg s b) b (reg s a)))
+  attempt d (SwapBits a b) s = ready (s .at) (Does (WriteTwo a (withBit (reg s a) (reg s b)) b (withBit (reg s b) (reg s a))))
+  attempt d (Fetch a b) s = ready (s .at) (inData (s .at) (reg s b) (Does (Write a (bitXor (reg s a) (getD (s .memory) (reg s b) 0)))))
+  attempt d (Exchange a v) s = ready (s .at) (inData (s .at) (value v (s .regs)) (Does (SwapWord a (value v (s .regs)))))
   attempt d (Qif a) s = isCoin (reg s a) (qif d (s .at) (reg s a))
-  attempt d (Fiq a) s = calm (s .at) (isCoin (reg s a) (fiq d (s .at) (reg s a)))
+  attempt d (Fiq a) s = ready (s .at) (isCoin (reg s a) (fiq d (s .at) (reg s a)))

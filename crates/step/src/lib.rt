@@ -1,9 +1,9 @@
 // One instruction at a fixed pc, either way: what it would do, or why it is refused; and the lent
 // words that it reads and writes.
 pub mod lent;
-pub mod operand;
 pub mod operation;
 pub mod perform;
+pub mod reverse;
 pub mod table;
 
 // The record beside its registers: the node qifv, the wait count qifw and the sizes.
@@ -27,9 +27,9 @@ pub enum Effect {
     Write(usize, u32),
     WriteTwo(usize, u32, usize, u32),
     // a register is exchanged with the word at an address
-    Trade(usize, u32),
+    SwapWord(usize, u32),
     // the node and the wait count are set
-    Visit(u32, u32),
+    SetNode(u32, u32),
 }
 
 pub enum Attempt {

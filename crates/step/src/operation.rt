@@ -1,23 +1,22 @@
 // An instruction word attempted: its effect, or the number that refuses it. Nothing is written.
 ghost use mathlib.Core.Path.{_≡_};
 ghost use mathlib.Core.Bool.{not, _&&_};
-ghost use Prim.Native.Nat.{_+_};
+ghost use Prim.Native.Nat.{_+_, _-_};
 ghost use lib.Dec.{eqb, ltb};
 ghost use lib.Bits.{bitXor};
 ghost use lib.ListN.{getD, take};
 ghost use Rattle.word.specs.Word.{pick, subWord, withBit};
 ghost use Rattle.qins.specs.Decode.{operation, decode};
 ghost use Rattle.step.specs.State.{seen, nodes};
-ghost use Rattle.step.specs.Step.{shifted, refuse, calm, inData, isCoin, child, enter, qif, pass, fiq, attempt};
+ghost use Rattle.step.specs.Step.{shifted, refuse, ready, inData, isCoin, child, enter, qif, pass, fiq, attempt};
 use crate::Attempt;
 use crate::Direction;
 use crate::Effect;
 use crate::Status;
 use crate::lent::look;
 use crate::lent::word_at;
-use crate::operand::flip_of;
-use crate::operand::one_less;
-use crate::operand::shift;
+use crate::reverse::flip_of;
+use crate::reverse::shift;
 use crate::table::is_paired;
 use crate::table::link_of;
 use qins::alone;
@@ -42,29 +41,29 @@ fn either(test: bool, a: Attempt, b: Attempt) -> Attempt
     if test { a } else { b }
 }
 
-fn when_calm(at: Status, rest: Attempt) -> Attempt
-    ensures { λ r. ⌜ r ≡ calm at rest ⌝ }
+fn when_ready(at: Status, rest: Attempt) -> Attempt
+    ensures { λ r. ⌜ r ≡ ready at rest ⌝ }
 {
     refused_if(at.qifw != 0, 14, rest)
 }
 
 // A register gets a word, or two do.
 fn write(at: Status, a: usize, v: u32) -> Attempt
-    ensures { λ r. ⌜ r ≡ calm at (Attempt.Does (Effect.Write a v)) ⌝ }
+    ensures { λ r. ⌜ r ≡ ready at (Attempt.Does (Effect.Write a v)) ⌝ }
 {
-    when_calm(at, Attempt::Does(Effect::Write(a, v)))
+    when_ready(at, Attempt::Does(Effect::Write(a, v)))
 }
 
 fn write_two(at: Status, a: usize, v: u32, b: usize, y: u32) -> Attempt
-    ensures { λ r. ⌜ r ≡ calm at (Attempt.Does (Effect.WriteTwo a v b y)) ⌝ }
+    ensures { λ r. ⌜ r ≡ ready at (Attempt.Does (Effect.WriteTwo a v b y)) ⌝ }
 {
-    when_calm(at, Attempt::Does(Effect::WriteTwo(a, v, b, y)))
+    when_ready(at, Attempt::Does(Effect::WriteTwo(a, v, b, y)))
 }
 
 fn nothing(at: Status) -> Attempt
-    ensures { λ r. ⌜ r ≡ calm at (Attempt.Does Effect.Nothing) ⌝ }
+    ensures { λ r. ⌜ r ≡ ready at (Attempt.Does Effect.Nothing) ⌝ }
 {
-    when_calm(at, Attempt::Does(Effect::Nothing))
+    when_ready(at, Attempt::Does(Effect::Nothing))
 }
 
 fn if_zero(x: u32, a: u32, b: u32) -> u32
@@ -75,17 +74,17 @@ fn if_zero(x: u32, a: u32, b: u32) -> u32
 
 // An effect that uses the data address i.
 fn at_data(at: Status, i: u32, e: Effect) -> Attempt
-    ensures { λ r. ⌜ r ≡ calm at (inData at i (Attempt.Does e)) ⌝ }
+    ensures { λ r. ⌜ r ≡ ready at (inData at i (Attempt.Does e)) ⌝ }
 {
     let data = word::both(at.k <= i, i < at.m);
-    when_calm(at, refused_if(!data, 15, Attempt::Does(e)))
+    when_ready(at, refused_if(!data, 15, Attempt::Does(e)))
 }
 
 // A register exchanged with the word at i.
 fn exchange(at: Status, a: usize, i: u32) -> Attempt
-    ensures { λ r. ⌜ r ≡ calm at (inData at i (Attempt.Does (Effect.Trade a i))) ⌝ }
+    ensures { λ r. ⌜ r ≡ ready at (inData at i (Attempt.Does (Effect.SwapWord a i))) ⌝ }
 {
-    at_data(at, i, Effect::Trade(a, i))
+    at_data(at, i, Effect::SwapWord(a, i))
 }
 
 // ---- qif, waiting and fiq
@@ -95,7 +94,7 @@ fn enters(at: Status, table: &[u32], x: u32, u: u32) -> Attempt
 {
     let ok = is_paired(table, at.n, at.qifv, x as usize, u, 4);
     let w = link_of(table, at.n, u, 8);
-    refused_if(!ok, 17, Attempt::Does(Effect::Visit(u, w)))
+    refused_if(!ok, 17, Attempt::Does(Effect::SetNode(u, w)))
 }
 
 fn as_child(at: Status, table: &[u32], x: u32, v: u32, rest: Attempt) -> Attempt
@@ -106,15 +105,21 @@ fn as_child(at: Status, table: &[u32], x: u32, v: u32, rest: Attempt) -> Attempt
     refused_if(!ok, 17, refused_if(w < at.qifw, 14, rest))
 }
 
+fn one_less(j: u32) -> u32
+    ensures { λ r. ⌜ r ≡ j - 1 ⌝ }
+{
+    if j == 0 { 0 } else { j - 1 }
+}
+
 // One cycle more to wait, or out of the qif's node to v.
 fn waits_or_leaves(at: Status, w: u32, v: u32) -> Effect
-    ensures { λ r. ⌜ r ≡ pick (ltb (at .qifw) w) (Effect.Visit (at .qifv) (at .qifw + 1)) (Effect.Visit v 0) ⌝ }
+    ensures { λ r. ⌜ r ≡ pick (ltb (at .qifw) w) (Effect.SetNode (at .qifv) (at .qifw + 1)) (Effect.SetNode v 0) ⌝ }
 {
     let j = at.qifw;
     if j < w {
-        Effect::Visit(at.qifv, j + 1)
+        Effect::SetNode(at.qifv, j + 1)
     } else {
-        Effect::Visit(v, 0)
+        Effect::SetNode(v, 0)
     }
 }
 
@@ -125,7 +130,7 @@ fn attempt_qif(d: Direction, at: Status, table: &[u32], x: u32) -> Attempt
     match d {
         Direction::Forward => {
             let u = link_of(table, at.n, at.qifv, x as usize);
-            let next = Effect::Visit(at.qifv, one_less(at.qifw));
+            let next = Effect::SetNode(at.qifv, one_less(at.qifw));
             let waits = as_child(at, table, x, v, Attempt::Does(next));
             either(at.qifw == 0, enters(at, table, x, u), waits)
         }
@@ -144,7 +149,7 @@ fn passes(at: Status, table: &[u32], x: u32, v: u32, p: u32, u: u32, y: u32) -> 
     refused_if(
         !word::both(last, next),
         17,
-        Attempt::Does(Effect::Visit(y, at.qifw)),
+        Attempt::Does(Effect::SetNode(y, at.qifw)),
     )
 }
 
@@ -173,41 +178,41 @@ fn qif_at(d: Direction, at: Status, regs: &[u32], table: &[u32], a: usize) -> At
 }
 
 fn fiq_at(d: Direction, at: Status, regs: &[u32], table: &[u32], a: usize) -> Attempt
-    ensures { λ r. ⌜ r ≡ calm at (isCoin (getD (now (regs .entry)) a 0) (fiq (nodes at (now (table .entry))) d at (getD (now (regs .entry)) a 0))) ⌝ }
+    ensures { λ r. ⌜ r ≡ ready at (isCoin (getD (now (regs .entry)) a 0) (fiq (nodes at (now (table .entry))) d at (getD (now (regs .entry)) a 0))) ⌝ }
 {
     let x = look(regs, a);
-    when_calm(at, refused_if(1 < x, 16, attempt_fiq(d, at, table, x)))
+    when_ready(at, refused_if(1 < x, 16, attempt_fiq(d, at, table, x)))
 }
 
 // ---- changes of registers
 
 fn xor_into(at: Status, regs: &[u32], a: usize, v: u32) -> Attempt
-    ensures { λ r. ⌜ r ≡ calm at (Attempt.Does (Effect.Write a (bitXor (getD (now (regs .entry)) a 0) v))) ⌝ }
+    ensures { λ r. ⌜ r ≡ ready at (Attempt.Does (Effect.Write a (bitXor (getD (now (regs .entry)) a 0) v))) ⌝ }
 {
     write(at, a, word::xor_word(look(regs, a), v))
 }
 
 fn shift_into(d: Direction, at: Status, regs: &[u32], a: usize, v: u32) -> Attempt
-    ensures { λ r. ⌜ r ≡ calm at (Attempt.Does (Effect.Write a (shifted d (getD (now (regs .entry)) a 0) v))) ⌝ }
+    ensures { λ r. ⌜ r ≡ ready at (Attempt.Does (Effect.Write a (shifted d (getD (now (regs .entry)) a 0) v))) ⌝ }
 {
     write(at, a, shift(d, look(regs, a), v))
 }
 
 fn negate(at: Status, regs: &[u32], a: usize) -> Attempt
-    ensures { λ r. ⌜ r ≡ calm at (Attempt.Does (Effect.Write a (subWord 0 (getD (now (regs .entry)) a 0)))) ⌝ }
+    ensures { λ r. ⌜ r ≡ ready at (Attempt.Does (Effect.Write a (subWord 0 (getD (now (regs .entry)) a 0)))) ⌝ }
 {
     write(at, a, word::sub_word(0, look(regs, a)))
 }
 
 fn swap(at: Status, regs: &[u32], a: usize, b: usize) -> Attempt
-    ensures { λ r. ⌜ r ≡ calm at (Attempt.Does (Effect.WriteTwo a (getD (now (regs .entry)) b 0) b (getD (now (regs .entry)) a 0))) ⌝ }
+    ensures { λ r. ⌜ r ≡ ready at (Attempt.Does (Effect.WriteTwo a (getD (now (regs .entry)) b 0) b (getD (now (regs .entry)) a 0))) ⌝ }
 {
     write_two(at, a, look(regs, b), b, look(regs, a))
 }
 
 fn swap_bits(at: Status, regs: &[u32], a: usize, b: usize) -> Attempt
     ensures { λ r.
-        ⌜ r ≡ calm at (Attempt.Does (Effect.WriteTwo a (withBit (getD (now (regs .entry)) a 0) (getD (now (regs .entry)) b 0))
+        ⌜ r ≡ ready at (Attempt.Does (Effect.WriteTwo a (withBit (getD (now (regs .entry)) a 0) (getD (now (regs .entry)) b 0))
         b (withBit (getD (now (regs .entry)) b 0) (getD (now (regs .entry)) a 0)))) ⌝ }
 {
     let x = look(regs, a);
@@ -218,7 +223,7 @@ fn swap_bits(at: Status, regs: &[u32], a: usize, b: usize) -> Attempt
 // The word at i xored into a register.
 fn fetch(at: Status, regs: &[u32], mem: &[u32], a: usize, i: u32) -> Attempt
     ensures { λ r.
-        ⌜ r ≡ calm at (inData at i (Attempt.Does (Effect.Write a (bitXor (getD (now (regs .entry)) a 0) (getD (take (at .m) (now (mem .entry))) i 0))))) ⌝ }
+        ⌜ r ≡ ready at (inData at i (Attempt.Does (Effect.Write a (bitXor (getD (now (regs .entry)) a 0) (getD (take (at .m) (now (mem .entry))) i 0))))) ⌝ }
 {
     let v = word::xor_word(look(regs, a), word_at(mem, at.m, i));
     at_data(at, i, Effect::Write(a, v))

@@ -29,8 +29,8 @@ pub fn after(e: Effect, regs: &[u32], mem: &[u32], m: u32, j: usize) -> u32
         Effect::Nothing => x,
         Effect::Write(a, v) => if_set(regs, a, v, j, x),
         Effect::WriteTwo(a, v, b, y) => if_set(regs, b, y, j, if_set(regs, a, v, j, x)),
-        Effect::Trade(a, i) => if_set(regs, a, word_at(mem, m, i), j, x),
-        Effect::Visit(_u, _j) => x,
+        Effect::SwapWord(a, i) => if_set(regs, a, word_at(mem, m, i), j, x),
+        Effect::SetNode(_u, _j) => x,
     }
 }
 
@@ -42,8 +42,8 @@ pub fn status_after(e: Effect, at: Status) -> Status
         Effect::Nothing => at,
         Effect::Write(_a, _v) => at,
         Effect::WriteTwo(_a, _v, _b, _y) => at,
-        Effect::Trade(_a, _i) => at,
-        Effect::Visit(u, j) => Status {
+        Effect::SwapWord(_a, _i) => at,
+        Effect::SetNode(u, j) => Status {
             qifv: u,
             qifw: j,
             k: at.k,
@@ -65,11 +65,11 @@ pub fn apply(e: Effect, regs: &mut [u32], mem: &mut [u32], m: u32)
             put(regs, a, v);
             put(regs, b, y);
         }
-        Effect::Trade(a, i) => {
+        Effect::SwapWord(a, i) => {
             let v = word_at(mem, m, i);
             store(mem, m, i, look(regs, a));
             put(regs, a, v);
         }
-        Effect::Visit(_u, _j) => {}
+        Effect::SetNode(_u, _j) => {}
     }
 }

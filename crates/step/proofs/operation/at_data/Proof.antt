@@ -8,4 +8,4 @@ at-data-spec =
     tie.close
     (tie.spec
     (λ c κs. search needs) (λ c κs. search needs) (λ c κs. search needs)
-    (λ c. simp (c .when-calm .ensures, c .before .refused-if .ensures, c .before .before .both .ensures)))
+    (λ c. simp (c .when-ready .ensures, c .before .refused-if .ensures, c .before .before .both .ensures)))

@@ -1,6 +1,5 @@
-// The direction that an operation works in.
+// What the direction changes.
 ghost use mathlib.Core.Path.{_≡_};
-ghost use Prim.Native.Nat.{_-_};
 ghost use Rattle.step.specs.State.{flip};
 ghost use Rattle.step.specs.Step.{shifted};
 use crate::Direction;
@@ -22,10 +21,4 @@ pub fn shift(d: Direction, x: u32, v: u32) -> u32
         Direction::Forward => word::add_word(x, v),
         Direction::Back => word::sub_word(x, v),
     }
-}
-
-pub fn one_less(j: u32) -> u32
-    ensures { λ r. ⌜ r ≡ j - 1 ⌝ }
-{
-    if j == 0 { 0 } else { j - 1 }
 }

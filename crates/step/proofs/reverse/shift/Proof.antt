@@ -1,7 +1,7 @@
 use mathlib.Core.Path.{_≡_, refl, sym, ap, _∙_}
 use borrow.Author.Needs.{needs}
-use Rattle.step.proofs.operand.shift.Statement.{statement}
-use Rattle.step.proofs.operand.shift.Tie as tie
+use Rattle.step.proofs.reverse.shift.Statement.{statement}
+use Rattle.step.proofs.reverse.shift.Tie as tie
 
 pub shift-spec : {M : Type 1} → statement M
 shift-spec =
