@@ -35,3 +35,8 @@ pub record Fits (s : State) : Type 0 where
 abbrev pub flip : Direction → Direction
 flip Forward = Back
 flip Back = Forward
+
+-- a forward, b back
+abbrev pub byWay : Direction → ℕ → ℕ → ℕ
+byWay Forward a b = a
+byWay Back a b = b

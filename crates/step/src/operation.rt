@@ -15,7 +15,9 @@ use crate::Effect;
 use crate::Status;
 use crate::lent::look;
 use crate::lent::word_at;
+use crate::reverse::by;
 use crate::reverse::flip_of;
+use crate::reverse::index_by;
 use crate::reverse::shift;
 use crate::table::is_paired;
 use crate::table::link_of;
@@ -153,21 +155,15 @@ fn passes(at: Status, table: &[u32], x: u32, v: u32, p: u32, u: u32, y: u32) -> 
     )
 }
 
+// One call of passes for both directions, so that it is inlined: p is the node above, y the node led to.
 fn attempt_fiq(d: Direction, at: Status, table: &[u32], x: u32) -> Attempt
     ensures { λ r. ⌜ r ≡ fiq (nodes at (now (table .entry))) d at x ⌝ }
 {
-    match d {
-        Direction::Forward => {
-            let p = link_of(table, at.n, at.qifv, 5);
-            let u = link_of(table, at.n, p, 6);
-            passes(at, table, x, at.qifv, p, u, u)
-        }
-        Direction::Back => {
-            let p = link_of(table, at.n, at.qifv, 7);
-            let v = link_of(table, at.n, p, 2 + x as usize);
-            passes(at, table, x, v, p, at.qifv, v)
-        }
-    }
+    let p = link_of(table, at.n, at.qifv, index_by(d, 5, 7));
+    let y = link_of(table, at.n, p, index_by(d, 6, 2 + x as usize));
+    let v = by(d, at.qifv, y);
+    let u = by(d, y, at.qifv);
+    passes(at, table, x, v, p, u, y)
 }
 
 fn qif_at(d: Direction, at: Status, regs: &[u32], table: &[u32], a: usize) -> Attempt
