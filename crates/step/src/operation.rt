@@ -125,16 +125,18 @@ fn waits_or_leaves(at: Status, w: u32, v: u32) -> Effect
     }
 }
 
+// A wait and an entry read other links, so only one of them is attempted.
 fn attempt_qif(d: Direction, at: Status, table: &[u32], x: u32) -> Attempt
     ensures { λ r. ⌜ r ≡ qif (nodes at (now (table .entry))) d at x ⌝ }
 {
     let v = link_of(table, at.n, at.qifv, 4);
     match d {
         Direction::Forward => {
-            let u = link_of(table, at.n, at.qifv, x as usize);
+            if at.qifw == 0 {
+                return enters(at, table, x, link_of(table, at.n, at.qifv, x as usize));
+            }
             let next = Effect::SetNode(at.qifv, one_less(at.qifw));
-            let waits = as_child(at, table, x, v, Attempt::Does(next));
-            either(at.qifw == 0, enters(at, table, x, u), waits)
+            as_child(at, table, x, v, Attempt::Does(next))
         }
         Direction::Back => {
             let w = link_of(table, at.n, at.qifv, 8);

@@ -200,24 +200,27 @@ fn batch_stretch(call: BatchCall, machine: &mut Machine) {
 }
 
 /// Million turns per second in both directions; the machine ends as it began.
+/// The median stretch counts, so that other work on the machine shows less.
 fn measure(
     start: &Machine,
     time: Duration,
     mut stretch: impl FnMut(Way, &mut Machine),
 ) -> [f64; 2] {
     let mut machine = start.clone();
-    let mut spent = [Duration::ZERO; 2];
-    let mut stretches = 0u32;
-    while spent.iter().any(|s| *s < time) {
+    let mut spent = [Vec::new(), Vec::new()];
+    let begin = Instant::now();
+    while spent[0].is_empty() || begin.elapsed() < 2 * time {
         for way in WAYS {
             let begin = Instant::now();
             stretch(way, &mut machine);
-            spent[way as usize] += begin.elapsed();
+            spent[way as usize].push(begin.elapsed());
         }
-        stretches += 1;
         assert_eq!(machine, *start, "the turns do not return");
     }
-    spent.map(|s| f64::from(stretches) * f64::from(STRETCH) / s.as_secs_f64() / 1e6)
+    spent.map(|mut s| {
+        s.sort();
+        f64::from(STRETCH) / s[s.len() / 2].as_secs_f64() / 1e6
+    })
 }
 
 /// Figures of each crank for one program: [crank][single or batch][way].
