@@ -1,7 +1,8 @@
 //! Comparison of an implementation's answers with the model's.
 
 use crate::cover::Cover;
-use crate::generate::{Machine, Turn, Way};
+use crate::rng::Rng;
+use crate::state::{Machine, Turn, Way};
 
 /// What a batch gave: the turns made and the refusal.
 #[derive(Clone, Copy, Debug, PartialEq, Eq)]
@@ -73,7 +74,7 @@ pub fn ends_within(way: Way, machine: &Machine, limit: u32) -> bool {
 }
 
 /// Numbers for batches: small, edge and large ones.
-pub fn batch_size(rng: &mut crate::rng::Rng, way: Way, machine: &Machine) -> u32 {
+pub fn batch_size(rng: &mut Rng, way: Way, machine: &Machine) -> u32 {
     let small = rng.below(6);
     let middle = rng.below(300);
     let wanted = rng.pick(&[0, 1, 2, small, middle, 1_000, u32::MAX - 1, u32::MAX]);

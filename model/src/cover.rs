@@ -1,9 +1,9 @@
 //! Counts of what a test reached, and of what it has missed.
 
-use crate::generate::{Machine, Way, KINDS, WAYS};
-use crate::instruction::{decode, opcode, para, BR, FINISH, PC};
+use crate::instruction::{decode, opcode, para, BR, FINISH, KINDS, PC};
 use crate::machine::Record;
 use crate::nodes::depth;
+use crate::state::{Machine, Way, WAYS};
 
 /// Refusals told apart: with qifw 0 and waiting, and the two kinds of 14,
 /// of which the first is also counted at a finish.

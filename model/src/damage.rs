@@ -1,10 +1,11 @@
 //! Damage to single fields of a machine.
 
-use crate::generate::{Machine, EXTREMES};
 use crate::instruction::Instruction::{Fiq, Qif};
 use crate::instruction::{decode, BR, FINISH, PC, START};
 use crate::machine::{MAX_M, MAX_N, NODE};
 use crate::rng::Rng;
+use crate::state::Machine;
+use crate::words::EXTREMES;
 
 fn damage_size(rng: &mut Rng, machine: &mut Machine) {
     let r = &mut machine.record;

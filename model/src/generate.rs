@@ -1,174 +1,14 @@
-//! Random machines: mostly valid ones and noise.
+//! Random states: valid ones, noise, damaged ones, and programs in mid-run.
 
 use crate::damage::damage;
 use crate::instruction::Instruction::*;
-use crate::instruction::{decode, word_i, word_o, word_r, BR, FINISH, PC, START};
-use crate::machine::{self, Record, CF, CL, FC, LC, NODE, PR, W};
+use crate::instruction::{decode, BR, FINISH, KINDS, PC, START};
+use crate::machine::{Record, CF, CL, FC, LC, NODE, PR, W};
 use crate::nodes::random_table;
 use crate::rng::Rng;
+use crate::state::{Machine, Way};
 use crate::structured;
-
-/// A record with lent memory and table.
-#[derive(Clone, Debug, PartialEq, Eq)]
-pub struct Machine {
-    pub record: Record,
-    pub mem: Vec<u32>,
-    pub table: Vec<u32>,
-}
-
-/// Direction of a turn.
-#[derive(Clone, Copy, Debug, PartialEq, Eq)]
-pub enum Way {
-    Forward,
-    Back,
-}
-
-pub const WAYS: [Way; 2] = [Way::Forward, Way::Back];
-
-/// A single turn, of the model or of the library.
-pub type Turn = fn(Record, &mut [u32], &[u32]) -> (u32, Record);
-
-impl Way {
-    pub fn reverse(self) -> Way {
-        match self {
-            Way::Forward => Way::Back,
-            Way::Back => Way::Forward,
-        }
-    }
-
-    /// The model's turn in this direction.
-    pub fn model(self) -> Turn {
-        match self {
-            Way::Forward => machine::forward,
-            Way::Back => machine::back,
-        }
-    }
-}
-
-impl Machine {
-    /// Makes a turn and gives its refusal.
-    pub fn turn(&mut self, turn: Turn) -> u32 {
-        let (refusal, record) = turn(self.record, &mut self.mem, &self.table);
-        self.record = record;
-        refusal
-    }
-
-    /// The words that the sizes count, all if there are fewer.
-    pub fn counted(&self) -> (&[u32], &[u32]) {
-        let m = self.mem.len().min(self.record.m as usize);
-        let words = (NODE as u64 * u64::from(self.record.n)).min(self.table.len() as u64);
-        (&self.mem[..m], &self.table[..words as usize])
-    }
-}
-
-/// Every opcode and para that is an instruction; para 0 outside type O.
-pub const KINDS: [(u32, u32); 29] = [
-    (1, 0),
-    (2, 0),
-    (3, 0),
-    (4, 0),
-    (5, 0),
-    (6, 0),
-    (7, 0),
-    (16, 0),
-    (17, 0),
-    (18, 0),
-    (19, 0),
-    (20, 0),
-    (21, 0),
-    (22, 0),
-    (23, 0),
-    (24, 0),
-    (25, 0),
-    (26, 0),
-    (27, 0),
-    (32, 1),
-    (33, 1),
-    (33, 2),
-    (34, 1),
-    (34, 2),
-    (35, 1),
-    (35, 2),
-    (35, 3),
-    (35, 4),
-    (35, 5),
-];
-
-/// Words at the edges of the range and around the sizes.
-pub const EXTREMES: [u32; 14] = [
-    0,
-    1,
-    2,
-    3,
-    511,
-    512,
-    0x7FFF,
-    0x8000,
-    0xFFFF,
-    0x7FFF_FFFF,
-    0x8000_0000,
-    0xFFFF_FFFE,
-    0xFFFF_FFFF,
-    8192,
-];
-
-/// A register that is neither pc nor br.
-fn plain(rng: &mut Rng) -> usize {
-    rng.between(2, 15) as usize
-}
-
-/// A register other than br and those in `not`, sometimes pc.
-fn source(rng: &mut Rng, not: &[usize]) -> usize {
-    loop {
-        let reg = if rng.chance(1, 8) { PC } else { plain(rng) };
-        if !not.contains(&reg) {
-            return reg;
-        }
-    }
-}
-
-/// A plain register other than `not`.
-fn other(rng: &mut Rng, not: usize) -> usize {
-    loop {
-        let reg = plain(rng);
-        if reg != not {
-            return reg;
-        }
-    }
-}
-
-/// A valid word of the given kind; `k` and `m` steer addresses.
-pub fn word_of(rng: &mut Rng, kind: (u32, u32), k: u32, m: u32) -> u32 {
-    let (opcode, para) = kind;
-    let a = plain(rng);
-    let any = rng.word();
-    match opcode {
-        1 if m > k && rng.chance(7, 8) => word_i(1, a, rng.between(k, m - 1)),
-        1 => word_i(1, a, rng.pick(&[0, k.wrapping_sub(1), m, any])),
-        5 => word_i(5, 0, offset(rng)),
-        6 | 7 => word_i(opcode, a, offset(rng)),
-        2..=4 => word_i(opcode, a, any),
-        18 => word_r(18, a, other(rng, a)),
-        16..=21 => word_r(opcode, a, source(rng, &[a])),
-        22..=25 => word_r(opcode, a, 0),
-        26 | 27 => word_r(opcode, 0, 0),
-        32 => word_o(32, para, a, 0, 0),
-        33 => word_o(33, para, a, other(rng, a), 0),
-        34 => word_o(34, para, a, source(rng, &[a]), 0),
-        _ => {
-            let b = source(rng, &[a]);
-            word_o(35, para, a, b, source(rng, &[a, b]))
-        }
-    }
-}
-
-/// A branch offset, mostly near.
-fn offset(rng: &mut Rng) -> u32 {
-    if rng.chance(1, 12) {
-        return rng.word();
-    }
-    rng.below(13).wrapping_sub(6)
-}
+use crate::words::{offset, word_of, EXTREMES};
 
 fn register_value(rng: &mut Rng, k: u32, m: u32) -> u32 {
     match rng.below(8) {
@@ -225,20 +65,8 @@ pub fn valid(rng: &mut Rng) -> Machine {
         n,
     };
     let mut machine = Machine { record, mem, table };
-    excess(rng, &mut machine);
+    machine.lend_excess(rng);
     machine
-}
-
-/// Lends more words than the sizes need, now and then.
-pub fn excess(rng: &mut Rng, machine: &mut Machine) {
-    if rng.chance(1, 2) {
-        let words = rng.below(12) as usize;
-        machine.mem.extend(rng.words(words));
-    }
-    if rng.chance(1, 2) {
-        let words = rng.below(30) as usize;
-        machine.table.extend(rng.words(words));
-    }
 }
 
 /// Nodes whose link in `field` is not 0.

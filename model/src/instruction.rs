@@ -46,6 +46,39 @@ pub enum Instruction {
 
 use Instruction::*;
 
+/// Every opcode and para that is an instruction; para 0 outside type O.
+pub const KINDS: [(u32, u32); 29] = [
+    (1, 0),
+    (2, 0),
+    (3, 0),
+    (4, 0),
+    (5, 0),
+    (6, 0),
+    (7, 0),
+    (16, 0),
+    (17, 0),
+    (18, 0),
+    (19, 0),
+    (20, 0),
+    (21, 0),
+    (22, 0),
+    (23, 0),
+    (24, 0),
+    (25, 0),
+    (26, 0),
+    (27, 0),
+    (32, 1),
+    (33, 1),
+    (33, 2),
+    (34, 1),
+    (34, 2),
+    (35, 1),
+    (35, 2),
+    (35, 3),
+    (35, 4),
+    (35, 5),
+];
+
 /// The instruction that a word is, if it is one.
 pub fn decode(word: u32) -> Option<Instruction> {
     match opcode(word) {

@@ -2,9 +2,9 @@
 
 use crate::compare::{batch_size, follow, Made};
 use crate::cover::Cover;
-use crate::generate::{Machine, Turn, Way};
 use crate::machine::{sizes_fit, NODE};
 use crate::rng::Rng;
+use crate::state::{Machine, Turn, Way};
 
 /// One call of a list.
 #[derive(Clone, Copy, Debug, PartialEq, Eq)]

@@ -1,7 +1,7 @@
 //! Qif tables with paired links, grown as an execution with two branches at
 //! each qif would make them.
 
-use crate::machine::{CF, CL, FC, LC, NODE, NX, PR, W};
+use crate::machine::{link, CF, CL, FC, LC, NODE, NX, PR, W};
 use crate::rng::Rng;
 
 /// A table under construction; node numbers count from 1.
@@ -115,8 +115,8 @@ pub fn depth(table: &[u32], n: u32, node: u32) -> Option<u32> {
     let mut depth = 0;
     let mut at = node;
     for _ in 0..=2 * n {
-        let before = crate::machine::link(table, n, at, PR)?;
-        let above = crate::machine::link(table, n, at, CF)?;
+        let before = link(table, n, at, PR)?;
+        let above = link(table, n, at, CF)?;
         if before == 0 && above == 0 {
             return Some(depth);
         }

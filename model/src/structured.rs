@@ -1,11 +1,11 @@
 //! Random programs that run long: arithmetic, data words, jumps, nested qifs
 //! and loops, with the table that belongs to them.
 
-use crate::generate::{excess, Machine};
 use crate::instruction::{word_i, word_o, word_r, BR, FINISH, PC, START};
 use crate::machine::{forward, Record, NODE, PR};
 use crate::nodes::Nodes;
 use crate::rng::Rng;
+use crate::state::Machine;
 
 /// Loop counter, loop end and the flag that the end is reached.
 const COUNT: usize = 4;
@@ -216,7 +216,7 @@ fn assemble(
 pub fn running(rng: &mut Rng, most: u32) -> Machine {
     let rounds = rng.chance(2, 3).then(|| rng.between(1, 60));
     let mut machine = program(rng, rounds);
-    excess(rng, &mut machine);
+    machine.lend_excess(rng);
     for _ in 0..rng.below(most) {
         let (refusal, record) = forward(machine.record, &mut machine.mem, &machine.table);
         if refusal != 0 {

@@ -2,9 +2,10 @@
 
 use crank_model::compare::{batch_size, follow, Made};
 use crank_model::cover::Cover;
-use crank_model::generate::{for_run, for_turn, Machine, Way, WAYS};
+use crank_model::generate::{for_run, for_turn};
 use crank_model::machine::{self, Batch, Record};
 use crank_model::rng::{rounds, Rng};
+use crank_model::state::{Machine, Way, WAYS};
 
 type BatchCall = fn(Record, u32, &mut [u32], &[u32]) -> Batch;
 

@@ -1,10 +1,11 @@
 //! The check of code and table: the model on small cases, and the library
 //! against the model.
 
-use crank_model::generate::{valid, Machine};
+use crank_model::generate::valid;
 use crank_model::image::check;
 use crank_model::machine::{Record, CF, CL, FC, LC, NODE, NX, PR, W};
 use crank_model::rng::Rng;
+use crank_model::state::Machine;
 
 type Check = fn(Record, &[u32], &[u32]) -> (u32, u32);
 

@@ -2,9 +2,10 @@
 
 use crank_model::compare::returns;
 use crank_model::cover::Cover;
-use crank_model::generate::{for_run, for_turn, Turn, WAYS};
+use crank_model::generate::{for_run, for_turn};
 use crank_model::machine;
 use crank_model::rng::{rounds, Rng};
+use crank_model::state::{Turn, WAYS};
 
 fn identity(title: &str, seed: u64, turns: [Turn; 2]) {
     let mut rng = Rng::new(seed);

@@ -3,11 +3,12 @@
 
 use crank_model::cover::Cover;
 use crank_model::damage::damage;
-use crank_model::generate::{noise, valid, Machine};
+use crank_model::generate::{noise, valid};
 use crank_model::image::{self, MARK, TRAILER};
 use crank_model::machine::{sizes_fit, Record, NODE};
 use crank_model::proved;
 use crank_model::rng::{rounds, Rng};
+use crank_model::state::Machine;
 use crank_model::structured;
 
 const LOADS: [&str; 7] = [

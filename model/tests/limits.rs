@@ -1,10 +1,10 @@
 //! Sizes at and past their limits, with lent slices exact, short and long:
 //! turns, check and save.
 
-use crank_model::generate::{Machine, Turn, WAYS};
 use crank_model::image;
 use crank_model::instruction::{word_i, word_r};
 use crank_model::machine::{Record, CF, FC, NODE};
+use crank_model::state::{Machine, Turn, WAYS};
 
 const R1: usize = 4;
 

@@ -2,10 +2,11 @@
 
 use crank_model::compare::Made;
 use crank_model::cover::Cover;
-use crank_model::generate::{for_run, Machine, Turn, Way, WAYS};
+use crank_model::generate::for_run;
 use crank_model::lists::{count_net, other_excess, run_left, run_right, Call, LIST_CASES};
 use crank_model::machine::{self, Batch, Record};
 use crank_model::rng::{rounds, Rng};
+use crank_model::state::{Machine, Turn, Way, WAYS};
 
 type BatchCall = fn(Record, u32, &mut [u32], &[u32]) -> Batch;
 

@@ -1,8 +1,8 @@
 //! The twelve bench marks, on the model and on the library.
 
-use crank_model::generate::{Machine, Turn};
 use crank_model::instruction::{decode, word_i, word_o, word_r, Instruction, START};
 use crank_model::machine::{self, Record, CF, FC, NODE, W};
+use crank_model::state::{Machine, Turn};
 
 const R1: usize = 4;
 const R2: usize = 5;

@@ -1,9 +1,9 @@
 //! The order of refusals: machines that give cause for many of them at once,
 //! mended one by one until the turn is accepted.
 
-use crank_model::generate::{Machine, Turn};
 use crank_model::instruction::{word_i, word_r, FINISH, START};
 use crank_model::machine::{self, Record, CF, CL, FC, LC, NODE, NX, PR, W};
+use crank_model::state::{Machine, Turn};
 
 const R1: usize = 4;
 const QIF: u32 = word(24);

@@ -7,12 +7,13 @@ use std::path::PathBuf;
 use std::process::{Command, Stdio};
 
 use crank_model::damage::damage;
-use crank_model::generate::{valid, Machine};
+use crank_model::generate::valid;
 use crank_model::image::{back_length, save};
 use crank_model::instruction::{word_i, word_o, FINISH, START};
 use crank_model::machine::{sizes_fit, Record};
 use crank_model::program::output;
 use crank_model::rng::{rounds, Rng};
+use crank_model::state::Machine;
 use crank_model::structured;
 
 /// The program to run; `None` only if asked to skip.

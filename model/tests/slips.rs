@@ -1,8 +1,8 @@
 //! The five ways in which a crank slips, on the model and on the library.
 
-use crank_model::generate::{Machine, Turn};
 use crank_model::instruction::{word_i, word_r, START};
 use crank_model::machine::{self, Record, CF, FC, NODE, W};
+use crank_model::state::{Machine, Turn};
 
 const R1: usize = 4;
 

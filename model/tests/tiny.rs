@@ -3,10 +3,11 @@
 
 use std::collections::HashMap;
 
-use crank_model::generate::{word_of, Machine, Way, KINDS, WAYS};
-use crank_model::instruction::{decode, word_i, word_r, Instruction, FINISH, START};
+use crank_model::instruction::{decode, word_i, word_r, Instruction, FINISH, KINDS, START};
 use crank_model::machine::{Record, NODE};
 use crank_model::rng::{rounds, Rng};
+use crank_model::state::{Machine, Way, WAYS};
+use crank_model::words::word_of;
 
 const R1: usize = 4;
 const R2: usize = 5;

@@ -3,9 +3,10 @@
 
 use crank_model::compare::same_turn;
 use crank_model::cover::Cover;
-use crank_model::generate::{for_run, for_turn, WAYS};
+use crank_model::generate::{for_run, for_turn};
 use crank_model::proved;
 use crank_model::rng::{rounds, Rng};
+use crank_model::state::WAYS;
 
 #[test]
 fn one_turn() {

@@ -8,9 +8,9 @@ use std::hint::black_box;
 use std::process::exit;
 use std::time::{Duration, Instant};
 
-use crank_model::generate::{Machine, Turn, Way, WAYS};
 use crank_model::instruction::{word_i, word_o, word_r};
 use crank_model::machine::{self, Batch, Record, NODE};
+use crank_model::state::{Machine, Turn, Way, WAYS};
 
 type BatchCall = fn(Record, u32, &mut [u32], &[u32]) -> Batch;
 

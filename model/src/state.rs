@@ -1,0 +1,70 @@
+//! A whole state: a record with its lent memory and table, and turns on it in
+//! either direction.
+
+use crate::machine::{self, Record, NODE};
+use crate::rng::Rng;
+
+/// A record with lent memory and table.
+#[derive(Clone, Debug, PartialEq, Eq)]
+pub struct Machine {
+    pub record: Record,
+    pub mem: Vec<u32>,
+    pub table: Vec<u32>,
+}
+
+/// Direction of a turn.
+#[derive(Clone, Copy, Debug, PartialEq, Eq)]
+pub enum Way {
+    Forward,
+    Back,
+}
+
+pub const WAYS: [Way; 2] = [Way::Forward, Way::Back];
+
+/// A single turn, of the model or of the library.
+pub type Turn = fn(Record, &mut [u32], &[u32]) -> (u32, Record);
+
+impl Way {
+    pub fn reverse(self) -> Way {
+        match self {
+            Way::Forward => Way::Back,
+            Way::Back => Way::Forward,
+        }
+    }
+
+    /// The model's turn in this direction.
+    pub fn model(self) -> Turn {
+        match self {
+            Way::Forward => machine::forward,
+            Way::Back => machine::back,
+        }
+    }
+}
+
+impl Machine {
+    /// Makes a turn and gives its refusal.
+    pub fn turn(&mut self, turn: Turn) -> u32 {
+        let (refusal, record) = turn(self.record, &mut self.mem, &self.table);
+        self.record = record;
+        refusal
+    }
+
+    /// The words that the sizes count, all if there are fewer.
+    pub fn counted(&self) -> (&[u32], &[u32]) {
+        let m = self.mem.len().min(self.record.m as usize);
+        let words = (NODE as u64 * u64::from(self.record.n)).min(self.table.len() as u64);
+        (&self.mem[..m], &self.table[..words as usize])
+    }
+
+    /// Lends more words than the sizes need, now and then.
+    pub fn lend_excess(&mut self, rng: &mut Rng) {
+        if rng.chance(1, 2) {
+            let words = rng.below(12) as usize;
+            self.mem.extend(rng.words(words));
+        }
+        if rng.chance(1, 2) {
+            let words = rng.below(30) as usize;
+            self.table.extend(rng.words(words));
+        }
+    }
+}
