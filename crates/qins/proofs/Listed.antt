@@ -5,8 +5,8 @@ use mathlib.Core.Bool.{Bool}
 use Prim.Native.Nat.{ℕ}
 use borrow.Author.Tests.{ne-eqb}
 use Rattle.qins.specs.Decode.{line, operation}
-use Rattle.qins.specs.declared.Op.{Op}
-use Rattle.qins.specs.declared.Op.the-variants.{None}
+use Rattle.qins.specs.Op.{Op}
+use Rattle.qins.specs.Op.Op.{None}
 
 -- o is none of the opcodes, as the last arm of a match on them has it
 abbrev pub Unlisted : ℕ → Type 0

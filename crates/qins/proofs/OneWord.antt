@@ -7,8 +7,8 @@ use lib.Dec.{eqb}
 use borrow.Author.Tests.{eqb-true, eqb-false}
 use Rattle.word.specs.Word.{pick}
 use Rattle.word.proofs.Words.{and-true}
-use Rattle.qins.specs.Decode.{opcode, reg1, reg2, low, bare, none, line, operation, decode, startWord, finishWord, kind, OneWord}
-use Rattle.qins.specs.declared.Op.{Op}
+use Rattle.qins.specs.Decode.{opcode, reg1, reg2, low, bare, namesNone, line, operation, decode, startWord, finishWord, kind, OneWord}
+use Rattle.qins.specs.Op.{Op}
 
 -- a line whose operation is not of kind x, where it holds
 off : (x o k : ℕ) (test : Bool) (op rest : Op) → (eqb o k && test ≡ true → eqb (kind op) x ≡ false) → eqb (kind rest) x ≡ false
@@ -20,8 +20,8 @@ off x o k test op rest h g = go (eqb o k && test) h
     go true h = h refl
     go false h = g
 
-module _ (x o a b i : ℕ) (y : eqb 0 x ≡ false) (z : eqb 3 x ≡ false) (p : eqb o 26 && (bare i && none a b) ≡ true → eqb 1 x ≡ false)
-    (q : eqb o 27 && (bare i && none a b) ≡ true → eqb 2 x ≡ false) where
+module _ (x o a b i : ℕ) (y : eqb 0 x ≡ false) (z : eqb 3 x ≡ false) (p : eqb o 26 && (bare i && namesNone a b) ≡ true → eqb 1 x ≡ false)
+    (q : eqb o 27 && (bare i && namesNone a b) ≡ true → eqb 2 x ≡ false) where
   unlike : eqb (kind (operation o a b i)) x ≡ false
   unfolding operation
   unlike =
@@ -34,10 +34,10 @@ module _ (x o a b i : ℕ) (y : eqb 0 x ≡ false) (z : eqb 3 x ≡ false) (p : 
       y))))))))))))))))))))))))))))
 
 -- a word of opcode k that names no register and has no low half is k in bits 31-24
-alone : (w k : ℕ) → eqb (opcode w) k && (bare (low w) && none (reg1 w) (reg2 w)) ≡ true → w ≡ k * 16777216
+alone : (w k : ℕ) → eqb (opcode w) k && (bare (low w) && namesNone (reg1 w) (reg2 w)) ≡ true → w ≡ k * 16777216
 alone w k h =
     let p = and-true (eqb (opcode w) k) _ h in
-    let q = and-true (bare (low w)) (none (reg1 w) (reg2 w)) (p .1) in
+    let q = and-true (bare (low w)) (namesNone (reg1 w) (reg2 w)) (p .1) in
     let n = and-true (eqb (reg1 w) 0) (eqb (reg2 w) 0) (q .1) in
     sum (eqb-true _ _ (p .0)) (eqb-true _ _ (n .0)) (eqb-true _ _ (n .1)) (eqb-true _ _ (q .0))
   where

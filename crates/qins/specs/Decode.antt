@@ -4,10 +4,9 @@ use mathlib.Core.Path.{_≡_}
 use mathlib.Core.Bool.{Bool, true, false, not, _&&_}
 use lib.Dec.{eqb, ltb}
 use Rattle.word.specs.Word.{pick, addWord}
-use Rattle.qins.specs.declared.Op.{Op}
-use Rattle.qins.specs.declared.Op.the-variants.{None, Start, Finish, Xor, Add, Sub, Neg, Swap, SwapBits, Fetch, Exchange, Qif, Fiq}
-use Rattle.qins.specs.declared.Source.{Source}
-use Rattle.qins.specs.declared.Source.the-variants.{Imm, Reg, Negated, Complement, Sum, Product, Quotient, Equal, Less, IfZero, IfNonzero, Bit}
+use Rattle.qins.specs.Op.{Op, Source}
+use Rattle.qins.specs.Op.Op.{None, Start, Finish, Xor, Add, Sub, Neg, Swap, SwapBits, Fetch, Exchange, Qif, Fiq}
+use Rattle.qins.specs.Op.Source.{Imm, Reg, Negated, Complement, Sum, Product, Quotient, Equal, Less, IfZero, IfNonzero, Bit}
 
 -- ---- the fields of a word
 
@@ -50,24 +49,24 @@ extended i = pick (ltb i 32768) i (addWord i 4294901760)
 -- ---- which registers a word may name: br (1) never, pc (0) only where it is read, all different
 
 -- no register
-abbrev pub none : ℕ → ℕ → Bool
-none a b = eqb a 0 && eqb b 0
+abbrev pub namesNone : ℕ → ℕ → Bool
+namesNone a b = eqb a 0 && eqb b 0
 
 -- a
-abbrev pub one : ℕ → ℕ → Bool
-one a b = ltb 1 a && eqb b 0
+abbrev pub namesOne : ℕ → ℕ → Bool
+namesOne a b = ltb 1 a && eqb b 0
 
 -- a, changed, and b, read
-abbrev pub two : ℕ → ℕ → Bool
-two a b = ltb 1 a && (not (eqb b 1) && not (eqb b a))
+abbrev pub namesTwo : ℕ → ℕ → Bool
+namesTwo a b = ltb 1 a && (not (eqb b 1) && not (eqb b a))
 
 -- a and b, both not pc
-abbrev pub both : ℕ → ℕ → Bool
-both a b = two a b && ltb 1 b
+abbrev pub namesBoth : ℕ → ℕ → Bool
+namesBoth a b = namesTwo a b && ltb 1 b
 
 -- a, changed, and b and c, read
-abbrev pub three : ℕ → ℕ → ℕ → Bool
-three a b c = two a b && (two a c && not (eqb c b))
+abbrev pub namesThree : ℕ → ℕ → ℕ → Bool
+namesThree a b c = namesTwo a b && (namesTwo a c && not (eqb c b))
 
 -- ---- the table, a line an opcode and para
 
@@ -79,35 +78,35 @@ line o k test op rest = pick (eqb o k && test) op rest
 -- in order: ld xori addi subi bra bez bnz; ldr fetr swap xor add sub; neg swbr qif fiq; start finish; uni unib ari arib
 unfoldable pub operation : ℕ → ℕ → ℕ → ℕ → Op
 operation o a b i =
-    line o 1 (one a b) (Exchange a (Imm i))
-    (line o 2 (one a b) (Xor a (Imm i))
-    (line o 3 (one a b) (Add a (Imm i))
-    (line o 4 (one a b) (Sub a (Imm i))
-    (line o 5 (none a b) (Xor 1 (Imm (extended i)))
-    (line o 6 (one a b) (Xor 1 (IfZero a (extended i)))
-    (line o 7 (one a b) (Xor 1 (IfNonzero a (extended i)))
-    (line o 16 (bare i && two a b) (Exchange a (Reg b))
-    (line o 17 (bare i && two a b) (Fetch a b)
-    (line o 18 (bare i && both a b) (Swap a b)
-    (line o 19 (bare i && two a b) (Xor a (Reg b))
-    (line o 20 (bare i && two a b) (Add a (Reg b))
-    (line o 21 (bare i && two a b) (Sub a (Reg b))
-    (line o 22 (bare i && one a b) (Neg a)
-    (line o 23 (bare i && one a b) (Swap a 1)
-    (line o 24 (bare i && one a b) (Qif a)
-    (line o 25 (bare i && one a b) (Fiq a)
-    (line o 26 (bare i && none a b) Start
-    (line o 27 (bare i && none a b) Finish
-    (line o 32 (para i 1 && one a b) (Xor a (Imm 1))
-    (line o 33 (para i 1 && both a b) (Xor b (Bit a))
-    (line o 33 (para i 2 && both a b) (SwapBits a b)
-    (line o 34 (para i 1 && two a b) (Xor a (Negated b))
-    (line o 34 (para i 2 && two a b) (Xor a (Complement b))
-    (line o 35 (para3 i 1 && three a b (reg3 i)) (Xor a (Sum b (reg3 i)))
-    (line o 35 (para3 i 2 && three a b (reg3 i)) (Xor a (Product b (reg3 i)))
-    (line o 35 (para3 i 3 && three a b (reg3 i)) (Xor a (Quotient b (reg3 i)))
-    (line o 35 (para3 i 4 && three a b (reg3 i)) (Xor a (Equal b (reg3 i)))
-    (line o 35 (para3 i 5 && three a b (reg3 i)) (Xor a (Less b (reg3 i)))
+    line o 1 (namesOne a b) (Exchange a (Imm i))
+    (line o 2 (namesOne a b) (Xor a (Imm i))
+    (line o 3 (namesOne a b) (Add a (Imm i))
+    (line o 4 (namesOne a b) (Sub a (Imm i))
+    (line o 5 (namesNone a b) (Xor 1 (Imm (extended i)))
+    (line o 6 (namesOne a b) (Xor 1 (IfZero a (extended i)))
+    (line o 7 (namesOne a b) (Xor 1 (IfNonzero a (extended i)))
+    (line o 16 (bare i && namesTwo a b) (Exchange a (Reg b))
+    (line o 17 (bare i && namesTwo a b) (Fetch a b)
+    (line o 18 (bare i && namesBoth a b) (Swap a b)
+    (line o 19 (bare i && namesTwo a b) (Xor a (Reg b))
+    (line o 20 (bare i && namesTwo a b) (Add a (Reg b))
+    (line o 21 (bare i && namesTwo a b) (Sub a (Reg b))
+    (line o 22 (bare i && namesOne a b) (Neg a)
+    (line o 23 (bare i && namesOne a b) (Swap a 1)
+    (line o 24 (bare i && namesOne a b) (Qif a)
+    (line o 25 (bare i && namesOne a b) (Fiq a)
+    (line o 26 (bare i && namesNone a b) Start
+    (line o 27 (bare i && namesNone a b) Finish
+    (line o 32 (para i 1 && namesOne a b) (Xor a (Imm 1))
+    (line o 33 (para i 1 && namesBoth a b) (Xor b (Bit a))
+    (line o 33 (para i 2 && namesBoth a b) (SwapBits a b)
+    (line o 34 (para i 1 && namesTwo a b) (Xor a (Negated b))
+    (line o 34 (para i 2 && namesTwo a b) (Xor a (Complement b))
+    (line o 35 (para3 i 1 && namesThree a b (reg3 i)) (Xor a (Sum b (reg3 i)))
+    (line o 35 (para3 i 2 && namesThree a b (reg3 i)) (Xor a (Product b (reg3 i)))
+    (line o 35 (para3 i 3 && namesThree a b (reg3 i)) (Xor a (Quotient b (reg3 i)))
+    (line o 35 (para3 i 4 && namesThree a b (reg3 i)) (Xor a (Equal b (reg3 i)))
+    (line o 35 (para3 i 5 && namesThree a b (reg3 i)) (Xor a (Less b (reg3 i)))
     None))))))))))))))))))))))))))))
 
 unfoldable pub decode : ℕ → Op

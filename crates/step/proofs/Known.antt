@@ -4,9 +4,9 @@ use mathlib.Core.Bool.{Bool, true, false}
 use mathlib.Core.List.{List}
 use Prim.Native.Nat.{ℕ}
 use Rattle.word.specs.Word.{pick}
-use Rattle.qins.specs.declared.Op.{Op}
-use Rattle.qins.specs.declared.Op.the-variants.{None}
-use Rattle.step.specs.State.{State, byWay}
+use Rattle.qins.specs.Op.{Op}
+use Rattle.qins.specs.Op.Op.{None}
+use Rattle.step.specs.View.{seen, nodes, byWay}
 use Rattle.step.specs.Table.{lc, cl, nx, pr, link}
 use Rattle.step.specs.Step.{pass, fiq, attempt}
 use Rattle.step.specs.declared.Status.{Status}
@@ -16,11 +16,12 @@ use Rattle.step.specs.declared.Attempt.{Attempt}
 use Rattle.step.specs.declared.Attempt.the-variants.{Refused}
 
 -- where its test holds the operation is attempted, else no instruction is
-pub known-is : (t : List ℕ) (d : Direction) (s : State) (b : Bool) (op : Op) {x : Attempt}
-    → x ≡ pick b (attempt t d op s) (Refused 13) → x ≡ attempt t d (pick b op None) s
+pub known-is : (d : Direction) (at : Status) (regs mem table : List ℕ) (b : Bool) (op : Op) {x : Attempt}
+    → x ≡ pick b (attempt (nodes at table) d op (seen at regs mem)) (Refused 13)
+    → x ≡ attempt (nodes at table) d (pick b op None) (seen at regs mem)
 unfolding attempt
-known-is t d s true op h = h
-known-is t d s false op h = h
+known-is d at regs mem table true op h = h
+known-is d at regs mem table false op h = h
 
 -- fiq, with its nodes chosen by the direction
 pub fiq-is : (t : List ℕ) (d : Direction) (at : Status) (x : ℕ)

@@ -1,4 +1,5 @@
 pub mod Views
 pub mod Sized
 pub mod Known
+pub mod Numbers
 pub mod Undo

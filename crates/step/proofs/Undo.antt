@@ -12,14 +12,13 @@ use lib.Bits.{bitXor, xor-lt}
 use borrow.Author.Tests.{ltb-true, ltb-false, leb-true, eqb-true, eqb-false, lt-ltb, le-ltb, ne-eqb}
 use Rattle.word.specs.Word.{pick, subWord, withBit}
 use Rattle.word.proofs.Words.{xor-again, add-sub, sub-add, neg-neg, bit-back, bit-word, add-word, sub-word, mul-word, div-word, pick-word, and-true, not-not}
-use Rattle.qins.specs.declared.Op.{Op}
-use Rattle.qins.specs.declared.Op.the-variants.{None, Start, Finish, Xor, Add, Sub, Neg, Swap, SwapBits, Fetch, Exchange, Qif, Fiq}
-use Rattle.qins.specs.declared.Source.{Source}
-use Rattle.qins.specs.declared.Source.the-variants.{Imm, Reg, Negated, Complement, Sum, Product, Quotient, Equal, Less, IfZero, IfNonzero, Bit}
+use Rattle.qins.specs.Op.{Op, Source}
+use Rattle.qins.specs.Op.Op.{None, Start, Finish, Xor, Add, Sub, Neg, Swap, SwapBits, Fetch, Exchange, Qif, Fiq}
+use Rattle.qins.specs.Op.Source.{Imm, Reg, Negated, Complement, Sum, Product, Quotient, Equal, Less, IfZero, IfNonzero, Bit}
 use Rattle.qins.proofs.Formed.{Named, Apart, Formed}
-use Rattle.step.specs.State.{State, Words, Fits, reg, flip}
+use Rattle.step.specs.View.{View, Words, Bounds, reg, flip}
 use Rattle.step.specs.Table.{fc, lc, cf, cl, nx, pr, w, isNode, link, paired}
-use Rattle.step.specs.Step.{written, stored, marked, performed, value, shifted, refuse, ready, isData, child, enter, qif, pass, fiq, attempt}
+use Rattle.step.specs.Step.{written, stored, marked, performed, value, shifted, refuse, isReady, whenReady, isData, isCoin, child, enter, qif, pass, fiq, attempt}
 use Rattle.step.specs.declared.Status.{Status}
 use Rattle.step.specs.declared.Direction.{Direction}
 use Rattle.step.specs.declared.Direction.the-variants.{Forward, Back}
@@ -37,7 +36,7 @@ Fair (SwapWord a i) at = (0 < a) × (at .k ≤ i)
 Fair (SetNode u j) at = Unit {0}
 
 -- the effect that the operation has the other way, after e, and that it leads home
-pub record Undone (t : List ℕ) (d : Direction) (o : Op) (s : State) (e : Effect) : Type 0 where
+pub record Undone (t : List ℕ) (d : Direction) (o : Op) (s : View) (e : Effect) : Type 0 where
   pub by : Effect
   pub does : attempt t (flip d) o (performed e s) ≡ Does by
   pub home : performed by (performed e s) ≡ s
@@ -127,7 +126,7 @@ pair t n v f u g h =
     let s = and-true (eqb (link t n v f) u) (eqb (link t n u g) v) (q .1) in
     record { there = eqb-true _ _ (s .0); home = eqb-true _ _ (s .1) }
 
-module _ (t : List ℕ) (s : State) (g : Fits s) (room : s .at .m ≤ length (s .memory)) where
+module _ (t : List ℕ) (s : View) (g : Bounds s) (room : s .at .m ≤ length (s .memory)) where
   abbrev at : Status
   at = s .at
 
@@ -139,8 +138,8 @@ module _ (t : List ℕ) (s : State) (g : Fits s) (room : s .at .m ≤ length (s 
   read : (a v : ℕ) → a < 16 → getD (set (s .regs) a v) a 0 ≡ v
   read a v h = getD-set-same (s .regs) a v 0 (in-regs a h)
 
-  was-ready : (x : Attempt) {e : Effect} → ready at x ≡ Does e → (not (eqb (at .qifw) 0) ≡ false) × (x ≡ Does e)
-  was-ready x h = passed (not (eqb (at .qifw) 0)) 14 x h
+  was-ready : (x : Attempt) {e : Effect} → whenReady at x ≡ Does e → (not (isReady at) ≡ false) × (x ≡ Does e)
+  was-ready x h = passed (not (isReady at)) 14 x h
 
   -- a register changed by f, and changed back by f′
   change : (d : Direction) (o : Op) (a : ℕ) (f f′ : ℕ → ℕ) → Named a → f (reg s a) < 2 ^ 32 → f′ (f (reg s a)) ≡ reg s a
@@ -201,7 +200,7 @@ module _ (t : List ℕ) (s : State) (g : Fits s) (room : s .at .m ≤ length (s 
   visit d o u j v i does p q h =
       subst (Undone t d o s) (inside h) (record { by = SetNode v i; does = does; home = rw (p, q); fair = tt })
 
-  qif-forward : (a : ℕ) → ltb 1 (reg s a) ≡ false → {e : Effect} → qif t Forward at (reg s a) ≡ Does e → Undone t Forward (Qif a) s e
+  qif-forward : (a : ℕ) → not (isCoin (reg s a)) ≡ false → {e : Effect} → qif t Forward at (reg s a) ≡ Does e → Undone t Forward (Qif a) s e
   unfolding refuse attempt qif child enter
   qif-forward a coin {e} h = go (eqb (at .qifw) 0) refl h
     where
@@ -232,7 +231,7 @@ module _ (t : List ℕ) (s : State) (g : Fits s) (room : s .at .m ≤ length (s 
           visit Forward (Qif a) (at .qifv) (at .qifw - 1) (at .qifv) (at .qifw - 1 + 1)
           (rw (coin, p .0, le-ltb most (at .qifw - 1) (omega arith), lt-ltb (at .qifw - 1) most (omega arith))) refl (omega arith) (q .1)
 
-  qif-back : (a : ℕ) → ltb 1 (reg s a) ≡ false → {e : Effect} → qif t Back at (reg s a) ≡ Does e → Undone t Back (Qif a) s e
+  qif-back : (a : ℕ) → not (isCoin (reg s a)) ≡ false → {e : Effect} → qif t Back at (reg s a) ≡ Does e → Undone t Back (Qif a) s e
   unfolding refuse attempt qif child enter
   qif-back a coin {e} h =
       let p = passed (not (paired t (at .n) v x (at .qifv) cf)) 17 _ h in
@@ -266,7 +265,7 @@ module _ (t : List ℕ) (s : State) (g : Fits s) (room : s .at .m ≤ length (s 
       let q = and-true (paired t (at .n) p (lc x) v cl) (paired t (at .n) p nx u pr) (not-not _ h) in
       (pair t (at .n) p (lc x) v cl (q .0), pair t (at .n) p nx u pr (q .1))
 
-  fiq-undone : (d : Direction) (a : ℕ) → not (eqb (at .qifw) 0) ≡ false → ltb 1 (reg s a) ≡ false
+  fiq-undone : (d : Direction) (a : ℕ) → not (isReady at) ≡ false → not (isCoin (reg s a)) ≡ false
       → {e : Effect} → fiq t d at (reg s a) ≡ Does e → Undone t d (Fiq a) s e
   unfolding refuse attempt fiq pass
   fiq-undone Forward a ready coin h =
@@ -282,7 +281,7 @@ module _ (t : List ℕ) (s : State) (g : Fits s) (room : s .at .m ≤ length (s 
       let l = fiq-links p v (at .qifv) (reg s a) (q .0) in
       visit Back (Fiq a) v (at .qifw) (at .qifv) (at .qifw) (rw (ready, coin, l .0 .home, l .1 .there, q .0)) refl refl (q .1)
 
-  qif-undone : (d : Direction) (a : ℕ) → ltb 1 (reg s a) ≡ false → {e : Effect} → qif t d at (reg s a) ≡ Does e → Undone t d (Qif a) s e
+  qif-undone : (d : Direction) (a : ℕ) → not (isCoin (reg s a)) ≡ false → {e : Effect} → qif t d at (reg s a) ≡ Does e → Undone t d (Qif a) s e
   qif-undone Forward a coin h = qif-forward a coin h
   qif-undone Back a coin h = qif-back a coin h
 
@@ -343,8 +342,8 @@ module _ (t : List ℕ) (s : State) (g : Fits s) (room : s .at .m ≤ length (s 
             );
         fair = (f .0 .0, l .0);
       })
-  undone d (Qif a) f h = let p = passed (ltb 1 (reg s a)) 16 _ h in qif-undone d a (p .0) (p .1)
+  undone d (Qif a) f h = let p = passed (not (isCoin (reg s a))) 16 _ h in qif-undone d a (p .0) (p .1)
   undone d (Fiq a) f h =
       let p = was-ready _ h in
-      let q = passed (ltb 1 (reg s a)) 16 _ (p .1) in
+      let q = passed (not (isCoin (reg s a))) 16 _ (p .1) in
       fiq-undone d a (p .0) (q .0) (q .1)

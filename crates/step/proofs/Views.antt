@@ -10,7 +10,7 @@ use lib.Seq.{take-at, drop-at, take-all, length-take-le, getD-take, getD-set-sam
 use lib.Dec.{eqb, ltb, leb}
 use borrow.Author.Tests.{lt-ltb, le-ltb, le-leb, lt-leb, leb-true, leb-false, eqb-true, eqb-false, ltb-false, ltb-true}
 use Rattle.word.specs.Word.{pick}
-use Rattle.step.specs.Table.{link, isNode}
+use Rattle.step.specs.Table.{tableWords, link, isNode}
 
 pub read-out : (l : List ℕ) (a : ℕ) → length l ≤ a → 0 ≡ getD l a 0
 read-out l a h = sym (List·getD-eq-default l 0 h)
@@ -39,7 +39,7 @@ module _ (t : List ℕ) (n v j : ℕ) where
   unfolding link
   link-above h = rw (lt-ltb 0 v (omega arith), lt-leb v n h)
 
-  pub link-node : 0 < v → v ≤ n → getD t (9 * (v - 1) + j) 0 ≡ link t n v j
+  pub link-node : 0 < v → v ≤ n → getD t (tableWords (v - 1) + j) 0 ≡ link t n v j
   unfolding link
   link-node h k = rw (lt-ltb 0 v h, le-leb v n k)
 

@@ -1,3 +1,4 @@
-pub mod State
 pub mod Table
+pub mod View
+pub mod Sizes
 pub mod Step

@@ -6,11 +6,10 @@ use lib.Dec.{eqb, ltb, leb}
 use lib.ListN.{getD, set}
 use lib.Bits.{bitXor}
 use Rattle.word.specs.Word.{pick, addWord, subWord, mulWord, divWord, complement, withBit}
-use Rattle.qins.specs.declared.Op.{Op}
-use Rattle.qins.specs.declared.Op.the-variants.{None, Start, Finish, Xor, Add, Sub, Neg, Swap, SwapBits, Fetch, Exchange, Qif, Fiq}
-use Rattle.qins.specs.declared.Source.{Source}
-use Rattle.qins.specs.declared.Source.the-variants.{Imm, Reg, Negated, Complement, Sum, Product, Quotient, Equal, Less, IfZero, IfNonzero, Bit}
-use Rattle.step.specs.State.{State, reg, flip}
+use Rattle.qins.specs.Op.{Op, Source}
+use Rattle.qins.specs.Op.Op.{None, Start, Finish, Xor, Add, Sub, Neg, Swap, SwapBits, Fetch, Exchange, Qif, Fiq}
+use Rattle.qins.specs.Op.Source.{Imm, Reg, Negated, Complement, Sum, Product, Quotient, Equal, Less, IfZero, IfNonzero, Bit}
+use Rattle.step.specs.View.{View, reg, withNode, flip}
 use Rattle.step.specs.Table.{fc, lc, cf, cl, nx, pr, w, link, paired}
 use Rattle.step.specs.declared.Status.{Status}
 use Rattle.step.specs.declared.Direction.{Direction}
@@ -44,9 +43,9 @@ marked Nothing at = at
 marked (Write a v) at = at
 marked (WriteTwo a v b x) at = at
 marked (SwapWord a i) at = at
-marked (SetNode u j) at = record { qifv = u; qifw = j; k = at .k; m = at .m; n = at .n }
+marked (SetNode u j) at = withNode at u j
 
-abbrev pub performed : Effect → State → State
+abbrev pub performed : Effect → View → View
 performed e s =
     record { at = marked e (s .at); regs = written e (s .regs) (s .memory); memory = stored e (s .regs) (s .memory) }
 
@@ -85,19 +84,25 @@ refuse true n rest = Refused n
 refuse false n rest = rest
 
 -- 14 while waiting
-abbrev pub ready : Status → Attempt → Attempt
-ready at rest = refuse (not (eqb (at .qifw) 0)) 14 rest
+abbrev pub isReady : Status → Bool
+isReady at = eqb (at .qifw) 0
+
+abbrev pub whenReady : Status → Attempt → Attempt
+whenReady at rest = refuse (not (isReady at)) 14 rest
 
 -- 15 for an address not in K to M-1
 abbrev pub isData : Status → ℕ → Bool
 isData at i = leb (at .k) i && ltb i (at .m)
 
-abbrev pub inData : Status → ℕ → Attempt → Attempt
-inData at i rest = refuse (not (isData at i)) 15 rest
+abbrev pub whenData : Status → ℕ → Attempt → Attempt
+whenData at i rest = refuse (not (isData at i)) 15 rest
 
 -- 16 for a coin that is neither 0 nor 1
-abbrev pub isCoin : ℕ → Attempt → Attempt
-isCoin x rest = refuse (ltb 1 x) 16 rest
+abbrev pub isCoin : ℕ → Bool
+isCoin x = leb x 1
+
+abbrev pub whenCoin : ℕ → Attempt → Attempt
+whenCoin x rest = refuse (not (isCoin x)) 16 rest
 
 -- ---- qif, waiting and fiq, over the table t, with coin x
 
@@ -114,7 +119,7 @@ module _ (t : List ℕ) where
 
   unfoldable pub qif : Direction → Status → ℕ → Attempt
   qif Forward at x =
-      pick (eqb (at .qifw) 0)
+      pick (isReady at)
       (enter at x (link t (at .n) (at .qifv) (fc x)))
       (child at x (link t (at .n) (at .qifv) cf) (Does (SetNode (at .qifv) (at .qifw - 1))))
   qif Back at x =
@@ -138,17 +143,17 @@ module _ (t : List ℕ) where
 
   -- ---- an operation: its effect, or its refusal in the order 13, 14, 15, 16, 17, 14
 
-  unfoldable pub attempt : Direction → Op → State → Attempt
+  unfoldable pub attempt : Direction → Op → View → Attempt
   attempt d None s = Refused 13
-  attempt d Start s = ready (s .at) (Does Nothing)
-  attempt d Finish s = ready (s .at) (Does Nothing)
-  attempt d (Xor a v) s = ready (s .at) (Does (Write a (bitXor (reg s a) (value v (s .regs)))))
-  attempt d (Add a v) s = ready (s .at) (Does (Write a (shifted d (reg s a) (value v (s .regs)))))
-  attempt d (Sub a v) s = ready (s .at) (Does (Write a (shifted (flip d) (reg s a) (value v (s .regs)))))
-  attempt d (Neg a) s = ready (s .at) (Does (Write a (subWord 0 (reg s a))))
-  attempt d (Swap a b) s = ready (s .at) (Does (WriteTwo a (reg s b) b (reg s a)))
-  attempt d (SwapBits a b) s = ready (s .at) (Does (WriteTwo a (withBit (reg s a) (reg s b)) b (withBit (reg s b) (reg s a))))
-  attempt d (Fetch a b) s = ready (s .at) (inData (s .at) (reg s b) (Does (Write a (bitXor (reg s a) (getD (s .memory) (reg s b) 0)))))
-  attempt d (Exchange a v) s = ready (s .at) (inData (s .at) (value v (s .regs)) (Does (SwapWord a (value v (s .regs)))))
-  attempt d (Qif a) s = isCoin (reg s a) (qif d (s .at) (reg s a))
-  attempt d (Fiq a) s = ready (s .at) (isCoin (reg s a) (fiq d (s .at) (reg s a)))
+  attempt d Start s = whenReady (s .at) (Does Nothing)
+  attempt d Finish s = whenReady (s .at) (Does Nothing)
+  attempt d (Xor a v) s = whenReady (s .at) (Does (Write a (bitXor (reg s a) (value v (s .regs)))))
+  attempt d (Add a v) s = whenReady (s .at) (Does (Write a (shifted d (reg s a) (value v (s .regs)))))
+  attempt d (Sub a v) s = whenReady (s .at) (Does (Write a (shifted (flip d) (reg s a) (value v (s .regs)))))
+  attempt d (Neg a) s = whenReady (s .at) (Does (Write a (subWord 0 (reg s a))))
+  attempt d (Swap a b) s = whenReady (s .at) (Does (WriteTwo a (reg s b) b (reg s a)))
+  attempt d (SwapBits a b) s = whenReady (s .at) (Does (WriteTwo a (withBit (reg s a) (reg s b)) b (withBit (reg s b) (reg s a))))
+  attempt d (Fetch a b) s = whenReady (s .at) (whenData (s .at) (reg s b) (Does (Write a (bitXor (reg s a) (getD (s .memory) (reg s b) 0)))))
+  attempt d (Exchange a v) s = whenReady (s .at) (whenData (s .at) (value v (s .regs)) (Does (SwapWord a (value v (s .regs)))))
+  attempt d (Qif a) s = whenCoin (reg s a) (qif d (s .at) (reg s a))
+  attempt d (Fiq a) s = whenReady (s .at) (whenCoin (reg s a) (fiq d (s .at) (reg s a)))

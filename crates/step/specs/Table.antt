@@ -6,6 +6,14 @@ use lib.Dec.{eqb, ltb, leb}
 use lib.ListN.{getD}
 use Rattle.word.specs.Word.{pick}
 
+-- the words of a node
+abbrev pub nodeWords : ℕ
+nodeWords = 9
+
+-- and of n nodes
+abbrev pub tableWords : ℕ → ℕ
+tableWords n = nodeWords * n
+
 -- a node's words: fc0 fc1 lc0 lc1 cf cl nx pr w; fc and lc by the coin
 abbrev pub fc : ℕ → ℕ
 fc x = x
@@ -33,7 +41,7 @@ isNode n v = ltb 0 v && leb v n
 
 -- word j of node v, 0 where v is none of the n nodes
 unfoldable pub link : List ℕ → ℕ → ℕ → ℕ → ℕ
-link t n v j = pick (isNode n v) (getD t (9 * (v - 1) + j) 0) 0
+link t n v j = pick (isNode n v) (getD t (tableWords (v - 1) + j) 0) 0
 
 -- v and u are nodes, link f of v is u, and link g of u is v
 unfoldable pub paired : List ℕ → ℕ → ℕ → ℕ → ℕ → ℕ → Bool

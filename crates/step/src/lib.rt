@@ -4,6 +4,7 @@ pub mod lent;
 pub mod operation;
 pub mod perform;
 pub mod reverse;
+pub mod sizes;
 pub mod table;
 
 // The record beside its registers: the node qifv, the wait count qifw and the sizes.

@@ -7,8 +7,8 @@ ghost use lib.Bits.{bitXor};
 ghost use lib.ListN.{getD, take};
 ghost use Rattle.word.specs.Word.{pick, subWord, withBit};
 ghost use Rattle.qins.specs.Decode.{operation, decode};
-ghost use Rattle.step.specs.State.{seen, nodes};
-ghost use Rattle.step.specs.Step.{shifted, refuse, ready, inData, isCoin, child, enter, qif, pass, fiq, attempt};
+ghost use Rattle.step.specs.View.{seen, nodes};
+ghost use Rattle.step.specs.Step.{shifted, refuse, whenReady, whenData, whenCoin, child, enter, qif, pass, fiq, attempt};
 use crate::Attempt;
 use crate::Direction;
 use crate::Effect;
@@ -19,7 +19,14 @@ use crate::reverse::by;
 use crate::reverse::flip_of;
 use crate::reverse::index_by;
 use crate::reverse::shift;
+use crate::table::CF;
+use crate::table::CL;
+use crate::table::NX;
+use crate::table::PR;
+use crate::table::W;
+use crate::table::first_child;
 use crate::table::is_paired;
+use crate::table::last_child;
 use crate::table::link_of;
 use qins::alone;
 use qins::extended_word;
@@ -37,33 +44,46 @@ pub fn refused_if(bad: bool, n: u32, rest: Attempt) -> Attempt
     if bad { Attempt::Refused(n) } else { rest }
 }
 
-fn either(test: bool, a: Attempt, b: Attempt) -> Attempt
+// A call of its own, as word::choose is: known with the choice in it costs a turn two instructions in a hundred.
+fn chosen(test: bool, a: Attempt, b: Attempt) -> Attempt
     ensures { λ r. ⌜ r ≡ pick test a b ⌝ }
 {
     if test { a } else { b }
 }
 
 fn when_ready(at: Status, rest: Attempt) -> Attempt
-    ensures { λ r. ⌜ r ≡ ready at rest ⌝ }
+    ensures { λ r. ⌜ r ≡ whenReady at rest ⌝ }
 {
     refused_if(at.qifw != 0, 14, rest)
 }
 
+fn when_data(at: Status, i: u32, rest: Attempt) -> Attempt
+    ensures { λ r. ⌜ r ≡ whenData at i rest ⌝ }
+{
+    refused_if(!word::both(at.k <= i, i < at.m), 15, rest)
+}
+
+fn when_coin(x: u32, rest: Attempt) -> Attempt
+    ensures { λ r. ⌜ r ≡ whenCoin x rest ⌝ }
+{
+    refused_if(!(x <= 1), 16, rest)
+}
+
 // A register gets a word, or two do.
 fn write(at: Status, a: usize, v: u32) -> Attempt
-    ensures { λ r. ⌜ r ≡ ready at (Attempt.Does (Effect.Write a v)) ⌝ }
+    ensures { λ r. ⌜ r ≡ whenReady at (Attempt.Does (Effect.Write a v)) ⌝ }
 {
     when_ready(at, Attempt::Does(Effect::Write(a, v)))
 }
 
 fn write_two(at: Status, a: usize, v: u32, b: usize, y: u32) -> Attempt
-    ensures { λ r. ⌜ r ≡ ready at (Attempt.Does (Effect.WriteTwo a v b y)) ⌝ }
+    ensures { λ r. ⌜ r ≡ whenReady at (Attempt.Does (Effect.WriteTwo a v b y)) ⌝ }
 {
     when_ready(at, Attempt::Does(Effect::WriteTwo(a, v, b, y)))
 }
 
 fn nothing(at: Status) -> Attempt
-    ensures { λ r. ⌜ r ≡ ready at (Attempt.Does Effect.Nothing) ⌝ }
+    ensures { λ r. ⌜ r ≡ whenReady at (Attempt.Does Effect.Nothing) ⌝ }
 {
     when_ready(at, Attempt::Does(Effect::Nothing))
 }
@@ -74,19 +94,11 @@ fn if_zero(x: u32, a: u32, b: u32) -> u32
     word::choose(x == 0, a, b)
 }
 
-// An effect that uses the data address i.
-fn at_data(at: Status, i: u32, e: Effect) -> Attempt
-    ensures { λ r. ⌜ r ≡ ready at (inData at i (Attempt.Does e)) ⌝ }
-{
-    let data = word::both(at.k <= i, i < at.m);
-    when_ready(at, refused_if(!data, 15, Attempt::Does(e)))
-}
-
 // A register exchanged with the word at i.
 fn exchange(at: Status, a: usize, i: u32) -> Attempt
-    ensures { λ r. ⌜ r ≡ ready at (inData at i (Attempt.Does (Effect.SwapWord a i))) ⌝ }
+    ensures { λ r. ⌜ r ≡ whenReady at (whenData at i (Attempt.Does (Effect.SwapWord a i))) ⌝ }
 {
-    at_data(at, i, Effect::SwapWord(a, i))
+    when_ready(at, when_data(at, i, Attempt::Does(Effect::SwapWord(a, i))))
 }
 
 // ---- qif, waiting and fiq
@@ -94,16 +106,16 @@ fn exchange(at: Status, a: usize, i: u32) -> Attempt
 fn enters(at: Status, table: &[u32], x: u32, u: u32) -> Attempt
     ensures { λ r. ⌜ r ≡ enter (nodes at (now (table .entry))) at x u ⌝ }
 {
-    let ok = is_paired(table, at.n, at.qifv, x as usize, u, 4);
-    let w = link_of(table, at.n, u, 8);
+    let ok = is_paired(table, at.n, at.qifv, first_child(x), u, CF);
+    let w = link_of(table, at.n, u, W);
     refused_if(!ok, 17, Attempt::Does(Effect::SetNode(u, w)))
 }
 
 fn as_child(at: Status, table: &[u32], x: u32, v: u32, rest: Attempt) -> Attempt
     ensures { λ r. ⌜ r ≡ child (nodes at (now (table .entry))) at x v rest ⌝ }
 {
-    let ok = is_paired(table, at.n, v, x as usize, at.qifv, 4);
-    let w = link_of(table, at.n, at.qifv, 8);
+    let ok = is_paired(table, at.n, v, first_child(x), at.qifv, CF);
+    let w = link_of(table, at.n, at.qifv, W);
     refused_if(!ok, 17, refused_if(w < at.qifw, 14, rest))
 }
 
@@ -129,17 +141,17 @@ fn waits_or_leaves(at: Status, w: u32, v: u32) -> Effect
 fn attempt_qif(d: Direction, at: Status, table: &[u32], x: u32) -> Attempt
     ensures { λ r. ⌜ r ≡ qif (nodes at (now (table .entry))) d at x ⌝ }
 {
-    let v = link_of(table, at.n, at.qifv, 4);
+    let v = link_of(table, at.n, at.qifv, CF);
     match d {
         Direction::Forward => {
             if at.qifw == 0 {
-                return enters(at, table, x, link_of(table, at.n, at.qifv, x as usize));
+                return enters(at, table, x, link_of(table, at.n, at.qifv, first_child(x)));
             }
             let next = Effect::SetNode(at.qifv, one_less(at.qifw));
             as_child(at, table, x, v, Attempt::Does(next))
         }
         Direction::Back => {
-            let w = link_of(table, at.n, at.qifv, 8);
+            let w = link_of(table, at.n, at.qifv, W);
             as_child(at, table, x, v, Attempt::Does(waits_or_leaves(at, w, v)))
         }
     }
@@ -148,8 +160,8 @@ fn attempt_qif(d: Direction, at: Status, table: &[u32], x: u32) -> Attempt
 fn passes(at: Status, table: &[u32], x: u32, v: u32, p: u32, u: u32, y: u32) -> Attempt
     ensures { λ r. ⌜ r ≡ pass (nodes at (now (table .entry))) at x v p u y ⌝ }
 {
-    let last = is_paired(table, at.n, p, 2 + x as usize, v, 5);
-    let next = is_paired(table, at.n, p, 6, u, 7);
+    let last = is_paired(table, at.n, p, last_child(x), v, CL);
+    let next = is_paired(table, at.n, p, NX, u, PR);
     refused_if(
         !word::both(last, next),
         17,
@@ -161,56 +173,56 @@ fn passes(at: Status, table: &[u32], x: u32, v: u32, p: u32, u: u32, y: u32) -> 
 fn attempt_fiq(d: Direction, at: Status, table: &[u32], x: u32) -> Attempt
     ensures { λ r. ⌜ r ≡ fiq (nodes at (now (table .entry))) d at x ⌝ }
 {
-    let p = link_of(table, at.n, at.qifv, index_by(d, 5, 7));
-    let y = link_of(table, at.n, p, index_by(d, 6, 2 + x as usize));
+    let p = link_of(table, at.n, at.qifv, index_by(d, CL, PR));
+    let y = link_of(table, at.n, p, index_by(d, NX, last_child(x)));
     let v = by(d, at.qifv, y);
     let u = by(d, y, at.qifv);
     passes(at, table, x, v, p, u, y)
 }
 
 fn qif_at(d: Direction, at: Status, regs: &[u32], table: &[u32], a: usize) -> Attempt
-    ensures { λ r. ⌜ r ≡ isCoin (getD (now (regs .entry)) a 0) (qif (nodes at (now (table .entry))) d at (getD (now (regs .entry)) a 0)) ⌝ }
+    ensures { λ r. ⌜ r ≡ whenCoin (getD (now (regs .entry)) a 0) (qif (nodes at (now (table .entry))) d at (getD (now (regs .entry)) a 0)) ⌝ }
 {
     let x = look(regs, a);
-    refused_if(1 < x, 16, attempt_qif(d, at, table, x))
+    when_coin(x, attempt_qif(d, at, table, x))
 }
 
 fn fiq_at(d: Direction, at: Status, regs: &[u32], table: &[u32], a: usize) -> Attempt
-    ensures { λ r. ⌜ r ≡ ready at (isCoin (getD (now (regs .entry)) a 0) (fiq (nodes at (now (table .entry))) d at (getD (now (regs .entry)) a 0))) ⌝ }
+    ensures { λ r. ⌜ r ≡ whenReady at (whenCoin (getD (now (regs .entry)) a 0) (fiq (nodes at (now (table .entry))) d at (getD (now (regs .entry)) a 0))) ⌝ }
 {
     let x = look(regs, a);
-    when_ready(at, refused_if(1 < x, 16, attempt_fiq(d, at, table, x)))
+    when_ready(at, when_coin(x, attempt_fiq(d, at, table, x)))
 }
 
 // ---- changes of registers
 
 fn xor_into(at: Status, regs: &[u32], a: usize, v: u32) -> Attempt
-    ensures { λ r. ⌜ r ≡ ready at (Attempt.Does (Effect.Write a (bitXor (getD (now (regs .entry)) a 0) v))) ⌝ }
+    ensures { λ r. ⌜ r ≡ whenReady at (Attempt.Does (Effect.Write a (bitXor (getD (now (regs .entry)) a 0) v))) ⌝ }
 {
     write(at, a, word::xor_word(look(regs, a), v))
 }
 
 fn shift_into(d: Direction, at: Status, regs: &[u32], a: usize, v: u32) -> Attempt
-    ensures { λ r. ⌜ r ≡ ready at (Attempt.Does (Effect.Write a (shifted d (getD (now (regs .entry)) a 0) v))) ⌝ }
+    ensures { λ r. ⌜ r ≡ whenReady at (Attempt.Does (Effect.Write a (shifted d (getD (now (regs .entry)) a 0) v))) ⌝ }
 {
     write(at, a, shift(d, look(regs, a), v))
 }
 
 fn negate(at: Status, regs: &[u32], a: usize) -> Attempt
-    ensures { λ r. ⌜ r ≡ ready at (Attempt.Does (Effect.Write a (subWord 0 (getD (now (regs .entry)) a 0)))) ⌝ }
+    ensures { λ r. ⌜ r ≡ whenReady at (Attempt.Does (Effect.Write a (subWord 0 (getD (now (regs .entry)) a 0)))) ⌝ }
 {
     write(at, a, word::sub_word(0, look(regs, a)))
 }
 
 fn swap(at: Status, regs: &[u32], a: usize, b: usize) -> Attempt
-    ensures { λ r. ⌜ r ≡ ready at (Attempt.Does (Effect.WriteTwo a (getD (now (regs .entry)) b 0) b (getD (now (regs .entry)) a 0))) ⌝ }
+    ensures { λ r. ⌜ r ≡ whenReady at (Attempt.Does (Effect.WriteTwo a (getD (now (regs .entry)) b 0) b (getD (now (regs .entry)) a 0))) ⌝ }
 {
     write_two(at, a, look(regs, b), b, look(regs, a))
 }
 
 fn swap_bits(at: Status, regs: &[u32], a: usize, b: usize) -> Attempt
     ensures { λ r.
-        ⌜ r ≡ ready at (Attempt.Does (Effect.WriteTwo a (withBit (getD (now (regs .entry)) a 0) (getD (now (regs .entry)) b 0))
+        ⌜ r ≡ whenReady at (Attempt.Does (Effect.WriteTwo a (withBit (getD (now (regs .entry)) a 0) (getD (now (regs .entry)) b 0))
         b (withBit (getD (now (regs .entry)) b 0) (getD (now (regs .entry)) a 0)))) ⌝ }
 {
     let x = look(regs, a);
@@ -221,10 +233,10 @@ fn swap_bits(at: Status, regs: &[u32], a: usize, b: usize) -> Attempt
 // The word at i xored into a register.
 fn fetch(at: Status, regs: &[u32], mem: &[u32], a: usize, i: u32) -> Attempt
     ensures { λ r.
-        ⌜ r ≡ ready at (inData at i (Attempt.Does (Effect.Write a (bitXor (getD (now (regs .entry)) a 0) (getD (take (at .m) (now (mem .entry))) i 0))))) ⌝ }
+        ⌜ r ≡ whenReady at (whenData at i (Attempt.Does (Effect.Write a (bitXor (getD (now (regs .entry)) a 0) (getD (take (at .m) (now (mem .entry))) i 0))))) ⌝ }
 {
     let v = word::xor_word(look(regs, a), word_at(mem, at.m, i));
-    at_data(at, i, Effect::Write(a, v))
+    when_ready(at, when_data(at, i, Attempt::Does(Effect::Write(a, v))))
 }
 
 // ---- every instruction word, by its fields. It is executed as it is decoded: the operation that
@@ -233,7 +245,7 @@ fn fetch(at: Status, regs: &[u32], mem: &[u32], a: usize, i: u32) -> Attempt
 fn known(test: bool, x: Attempt) -> Attempt
     ensures { λ r. ⌜ r ≡ pick test x (Attempt.Refused 13) ⌝ }
 {
-    either(test, x, Attempt::Refused(13))
+    chosen(test, x, Attempt::Refused(13))
 }
 
 fn attempt_unib(

@@ -3,8 +3,9 @@ ghost use mathlib.Core.Path.{_≡_};
 ghost use mathlib.Core.List.{_++_};
 ghost use mathlib.Core.Bool.{_&&_};
 ghost use lib.Dec.{eqb, ltb};
-ghost use lib.ListN.{length, getD, take, drop};
+ghost use lib.ListN.{length, getD, set, take, drop};
 ghost use Rattle.word.specs.Word.{pick};
+ghost use Rattle.step.specs.View.{withNode};
 ghost use Rattle.step.specs.Step.{written, stored, marked};
 use crate::Effect;
 use crate::Status;
@@ -34,6 +35,15 @@ pub fn after(e: Effect, regs: &[u32], mem: &[u32], m: u32, j: usize) -> u32
     }
 }
 
+fn with_node(at: Status, u: u32, j: u32) -> Status
+    ensures { λ r. ⌜ r ≡ withNode at u j ⌝ }
+{
+    let mut next = at;
+    next.qifv = u;
+    next.qifw = j;
+    next
+}
+
 // The status as the effect leaves it.
 pub fn status_after(e: Effect, at: Status) -> Status
     ensures { λ r. ⌜ r ≡ marked e at ⌝ }
@@ -43,14 +53,19 @@ pub fn status_after(e: Effect, at: Status) -> Status
         Effect::Write(_a, _v) => at,
         Effect::WriteTwo(_a, _v, _b, _y) => at,
         Effect::SwapWord(_a, _i) => at,
-        Effect::SetNode(u, j) => Status {
-            qifv: u,
-            qifw: j,
-            k: at.k,
-            m: at.m,
-            n: at.n,
-        },
+        Effect::SetNode(u, j) => with_node(at, u, j),
     }
+}
+
+// A register exchanged with the word at i.
+fn swap_word(a: usize, i: u32, regs: &mut [u32], mem: &mut [u32], m: u32)
+    ensures { λ _.
+        ⌜ (now (regs .exit) ≡ set (now (regs .entry)) a (getD (take m (now (mem .entry))) i 0))
+        × (now (mem .exit) ≡ set (take m (now (mem .entry))) i (getD (now (regs .entry)) a 0) ++ drop m (now (mem .entry))) ⌝ }
+{
+    let v = word_at(mem, m, i);
+    store(mem, m, i, look(regs, a));
+    put(regs, a, v);
 }
 
 pub fn apply(e: Effect, regs: &mut [u32], mem: &mut [u32], m: u32)
@@ -65,11 +80,7 @@ pub fn apply(e: Effect, regs: &mut [u32], mem: &mut [u32], m: u32)
             put(regs, a, v);
             put(regs, b, y);
         }
-        Effect::SwapWord(a, i) => {
-            let v = word_at(mem, m, i);
-            store(mem, m, i, look(regs, a));
-            put(regs, a, v);
-        }
+        Effect::SwapWord(a, i) => swap_word(a, i, regs, mem, m),
         Effect::SetNode(_u, _j) => {}
     }
 }

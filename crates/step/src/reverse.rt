@@ -1,6 +1,6 @@
 // What the direction changes.
 ghost use mathlib.Core.Path.{_≡_};
-ghost use Rattle.step.specs.State.{flip, byWay};
+ghost use Rattle.step.specs.View.{flip, byWay};
 ghost use Rattle.step.specs.Step.{shifted};
 use crate::Direction;
 

@@ -1,6 +1,6 @@
 // Arithmetic on words of 32 bits, and choices by a test.
 ghost use mathlib.Core.Path.{_≡_};
-ghost use mathlib.Core.Bool.{true, false, _&&_};
+ghost use mathlib.Core.Bool.{true, false, _&&_, _||_};
 ghost use Prim.Native.Nat.{_+_, _-_, _*_, _/_, _%_, _<_};
 ghost use lib.Bits.{bitXor};
 ghost use lib.Dec.{eqb, ltb};
@@ -63,9 +63,15 @@ pub fn choose(test: bool, a: u32, b: u32) -> u32
     if test { a } else { b }
 }
 
-// Both tests hold. A call, since the second half of an && tells a proof less.
+// Both tests hold, or one does. Calls, since the second half of an && or an || tells a proof less.
 pub fn both(a: bool, b: bool) -> bool
     ensures { λ r. ⌜ r ≡ a && b ⌝ }
 {
     if a { b } else { false }
+}
+
+pub fn either(a: bool, b: bool) -> bool
+    ensures { λ r. ⌜ r ≡ a || b ⌝ }
+{
+    if a { true } else { b }
 }

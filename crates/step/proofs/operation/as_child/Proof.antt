@@ -8,5 +8,5 @@ unfolding Rattle.step.specs.Step.child
 as-child-spec =
     tie.close
     (tie.spec
-    (λ c κs. search needs) (λ c κs. search needs) (λ c κs. search needs) (λ c κs. search needs)
-    (λ c. simp (c .refused-if2 .ensures, c .before .refused-if .ensures, c .before .before .before .link-of .ensures, c .before .before .before .before .is-paired .ensures)))
+    (λ c κs. search needs) (λ c κs. search needs) (λ c κs. search needs) (λ c κs. search needs) (λ c κs. search needs)
+    (λ c. simp (c .refused-if2 .ensures, c .before .refused-if .ensures, c .before .before .before .link-of .ensures, c .before .before .before .before .is-paired .ensures, c .before .before .before .before .before .first-child .ensures)))

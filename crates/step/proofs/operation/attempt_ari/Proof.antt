@@ -1,11 +1,10 @@
 use mathlib.Core.Path.{_∙_}
 use denote.Ref.{now}
-use Rattle.step.specs.State.{seen, nodes}
 use Rattle.step.proofs.Known.{known-is}
 use borrow.Author.Tests.{ne-eqb}
-use Rattle.qins.specs.Decode.{two}
-use Rattle.qins.specs.declared.Op.the-variants.{Xor}
-use Rattle.qins.specs.declared.Source.the-variants.{Negated, Complement}
+use Rattle.qins.specs.Decode.{namesTwo}
+use Rattle.qins.specs.Op.Op.{Xor}
+use Rattle.qins.specs.Op.Source.{Negated, Complement}
 use borrow.Author.Needs.{needs}
 use Rattle.step.proofs.operation.attempt_ari.Statement.{statement}
 use Rattle.step.proofs.operation.attempt_ari.Tie as tie
@@ -17,8 +16,8 @@ attempt-ari-spec =
     (tie.spec
     (λ c κs. search needs) (λ c κs. search needs) (λ c κs. search needs) (λ c κs. search needs) (λ c κs. search needs)
     (λ c κs. search needs) (λ c κs. search needs) (λ c κs. search needs) (λ c κs. search needs) (λ c κs. search needs)
-    (λ c. let g = c .before .before .before .before .before .before .before .before .before .args in rw (c .before .before .before .before .before .match .keys1) (known-is (nodes (g .at) (now (g .table))) (g .d) (seen (g .at) (now (g .regs)) (now (g .mem))) (two (g .a) (g .b)) (Xor (g .a) (Negated (g .b)))
+    (λ c. let g = c .before .before .before .before .before .before .before .before .before .args in rw (c .before .before .before .before .before .match .keys1) (known-is (g .d) (g .at) (now (g .regs)) (now (g .mem)) (now (g .table)) (namesTwo (g .a) (g .b)) (Xor (g .a) (Negated (g .b)))
     (c .known .ensures ∙ rw (c .before .xor-into .ensures, c .before .before .sub-word .ensures, c .before .before .before .look .ensures, c .before .before .before .before .names-two .ensures))))
-    (λ c. let g = c .before .before .before .before .before .before .before .before .before .args in rw (c .before .before .before .before .before .match .keys2) (known-is (nodes (g .at) (now (g .table))) (g .d) (seen (g .at) (now (g .regs)) (now (g .mem))) (two (g .a) (g .b)) (Xor (g .a) (Complement (g .b)))
+    (λ c. let g = c .before .before .before .before .before .before .before .before .before .args in rw (c .before .before .before .before .before .match .keys2) (known-is (g .d) (g .at) (now (g .regs)) (now (g .mem)) (now (g .table)) (namesTwo (g .a) (g .b)) (Xor (g .a) (Complement (g .b)))
     (c .known2 .ensures ∙ rw (c .before .xor-into2 .ensures, c .before .before .complement-of .ensures, c .before .before .before .look2 .ensures, c .before .before .before .before .names-two2 .ensures))))
     (λ c. let n = c .match .rest in rw (ne-eqb _ _ (n .0 .1), ne-eqb _ _ (n .1))))

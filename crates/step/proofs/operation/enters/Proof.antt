@@ -8,5 +8,5 @@ unfolding Rattle.step.specs.Step.enter
 enters-spec =
     tie.close
     (tie.spec
-    (λ c κs. search needs) (λ c κs. search needs) (λ c κs. search needs)
-    (λ c. simp (c .refused-if .ensures, c .before .link-of .ensures, c .before .before .is-paired .ensures)))
+    (λ c κs. search needs) (λ c κs. search needs) (λ c κs. search needs) (λ c κs. search needs)
+    (λ c. simp (c .refused-if .ensures, c .before .link-of .ensures, c .before .before .is-paired .ensures, c .before .before .before .first-child .ensures)))

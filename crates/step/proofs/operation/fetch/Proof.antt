@@ -6,5 +6,5 @@ pub fetch-spec : {M : Type 1} → statement M
 fetch-spec =
     tie.close
     (tie.spec
-    (λ c κs. search needs) (λ c κs. search needs) (λ c κs. search needs) (λ c κs. search needs)
-    (λ c. simp (c .at-data .ensures, c .before .xor-word .ensures, c .before .before .word-at .ensures, c .before .before .before .look .ensures)))
+    (λ c κs. search needs) (λ c κs. search needs) (λ c κs. search needs) (λ c κs. search needs) (λ c κs. search needs)
+    (λ c. simp (c .when-ready .ensures, c .before .when-data .ensures, c .before .before .xor-word .ensures, c .before .before .before .word-at .ensures, c .before .before .before .before .look .ensures)))

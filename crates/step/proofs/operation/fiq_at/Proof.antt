@@ -7,4 +7,4 @@ fiq-at-spec =
     tie.close
     (tie.spec
     (λ c κs. search needs) (λ c κs. search needs) (λ c κs. search needs) (λ c κs. search needs)
-    (λ c. simp (c .when-ready .ensures, c .before .refused-if .ensures, c .before .before .attempt-fiq .ensures, c .before .before .before .look .ensures)))
+    (λ c. simp (c .when-ready .ensures, c .before .when-coin .ensures, c .before .before .attempt-fiq .ensures, c .before .before .before .look .ensures)))

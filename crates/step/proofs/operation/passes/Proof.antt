@@ -8,5 +8,5 @@ unfolding Rattle.step.specs.Step.pass
 passes-spec =
     tie.close
     (tie.spec
-    (λ c. search needs) (λ c κs. search needs) (λ c κs. search needs) (λ c κs. search needs) (λ c κs. search needs)
-    (λ c. simp (c .refused-if .ensures, c .before .both .ensures, c .before .before .is-paired2 .ensures, c .before .before .before .is-paired .ensures)))
+    (λ c κs. search needs) (λ c κs. search needs) (λ c κs. search needs) (λ c κs. search needs) (λ c κs. search needs)
+    (λ c. simp (c .refused-if .ensures, c .before .both .ensures, c .before .before .is-paired2 .ensures, c .before .before .before .is-paired .ensures, c .before .before .before .before .last-child .ensures)))

@@ -7,4 +7,4 @@ qif-at-spec =
     tie.close
     (tie.spec
     (λ c κs. search needs) (λ c κs. search needs) (λ c κs. search needs)
-    (λ c. simp (c .refused-if .ensures, c .before .attempt-qif .ensures, c .before .before .look .ensures)))
+    (λ c. simp (c .when-coin .ensures, c .before .attempt-qif .ensures, c .before .before .look .ensures)))

@@ -6,9 +6,9 @@ pub status-after-spec : {M : Type 1} → statement M
 status-after-spec =
     tie.close
     (tie.spec
-    (λ c. search needs) (λ c. search needs) (λ c. search needs) (λ c. search needs) (λ c. search needs)
+    (λ c. search needs) (λ c. search needs) (λ c. search needs) (λ c. search needs) (λ c. search needs) (λ c κs. search needs)
     (λ c. rw (c .enum-told .given .1))
     (λ c. rw (c .before .e .given .1))
     (λ c. rw (c .before .e2 .given .1))
     (λ c. rw (c .before .e3 .given .1))
-    (λ c. rw (c .before .e4 .given .1)))
+    (λ c. rw (c .before .before .e4 .given .1) (c .with-node .ensures)))

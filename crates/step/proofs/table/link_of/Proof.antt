@@ -1,7 +1,8 @@
 use native.Mathlib.Omega.{arith}
 use denote.Ref.{now}
 use mathlib.Core.Path.{_∙_}
-use Prim.Native.Nat.{_+_, _-_, _*_}
+use Prim.Native.Nat.{_+_, _-_}
+use Rattle.step.specs.Table.{tableWords}
 use Rattle.step.proofs.Views.{view-in, view-out, link-none, link-above, link-node}
 use borrow.Author.Needs.{needs}
 use Rattle.step.proofs.table.link_of.Statement.{statement}
@@ -15,6 +16,6 @@ link-of-spec =
     (λ c. let g = c .before .before .args in link-above _ (g .n) (g .v) (g .j) (omega arith))
     (λ c. search needs) (λ c. search needs) (λ c. search needs) (λ c. search needs) (λ c. search needs) (λ c. search needs)
     (λ c. search needs)
-    (λ c. let g = c .before .before .before .before .before .args in view-in (now (g .table)) (9 * g .n) (9 * (g .v - 1) + g .j) (omega arith) ∙ link-node _ (g .n) (g .v) (g .j) (omega arith) (omega arith))
-    (λ c. let g = c .before .before .before .before .args in view-out (now (g .table)) (9 * g .n) (9 * (g .v - 1) + g .j) (omega arith) ∙ link-node _ (g .n) (g .v) (g .j) (omega arith) (omega arith))
-    (λ c. let g = c .before .before .before .args in view-out (now (g .table)) (9 * g .n) (9 * (g .v - 1) + g .j) (omega arith) ∙ link-node _ (g .n) (g .v) (g .j) (omega arith) (omega arith)))
+    (λ c. let g = c .before .before .before .before .before .args in view-in (now (g .table)) (tableWords (g .n)) (tableWords (g .v - 1) + g .j) (omega arith) ∙ link-node _ (g .n) (g .v) (g .j) (omega arith) (omega arith))
+    (λ c. let g = c .before .before .before .before .args in view-out (now (g .table)) (tableWords (g .n)) (tableWords (g .v - 1) + g .j) (omega arith) ∙ link-node _ (g .n) (g .v) (g .j) (omega arith) (omega arith))
+    (λ c. let g = c .before .before .before .args in view-out (now (g .table)) (tableWords (g .n)) (tableWords (g .v - 1) + g .j) (omega arith) ∙ link-node _ (g .n) (g .v) (g .j) (omega arith) (omega arith)))

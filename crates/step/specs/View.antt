@@ -1,33 +1,39 @@
 -- What an instruction sees: the registers, the status beside them, and the memory's M words.
-use Prim.Native.Nat.{ℕ, _*_, _^_, _<_}
+use Prim.Native.Nat.{ℕ, _^_, _<_}
 use mathlib.Core.Path.{_≡_}
 use mathlib.Core.List.{List}
 use lib.ListN.{length, getD, take}
+use Rattle.step.specs.Table.{tableWords}
 use Rattle.step.specs.declared.Status.{Status}
 use Rattle.step.specs.declared.Direction.{Direction}
 use Rattle.step.specs.declared.Direction.the-variants.{Forward, Back}
 
-pub record State : Type 0 where
+pub record View : Type 0 where
   pub at : Status
   pub regs : List ℕ
   pub memory : List ℕ
 
 -- register a, 0 where there is none
-abbrev pub reg : State → ℕ → ℕ
+abbrev pub reg : View → ℕ → ℕ
 reg s a = getD (s .regs) a 0
 
+-- the status with another node and wait count
+abbrev pub withNode : Status → ℕ → ℕ → Status
+withNode at u j = record { qifv = u; qifw = j; k = at .k; m = at .m; n = at .n }
+
 -- the first M lent words, and the first 9 N, are all that counts
-abbrev pub seen : Status → List ℕ → List ℕ → State
+abbrev pub seen : Status → List ℕ → List ℕ → View
 seen at regs mem = record { at = at; regs = regs; memory = take (at .m) mem }
 
 abbrev pub nodes : Status → List ℕ → List ℕ
-nodes at table = take (9 * at .n) table
+nodes at table = take (tableWords (at .n)) table
 
--- The one assumption of the laws, which the types give: sixteen registers, and words of 32 bits.
+-- The bounds that the laws ask for and the types give: sixteen registers, and words of 32 bits.
+-- Each call proves them of its own arguments.
 abbrev pub Words : List ℕ → Type 0
 Words l = (a : ℕ) → getD l a 0 < 2 ^ 32
 
-pub record Fits (s : State) : Type 0 where
+pub record Bounds (s : View) : Type 0 where
   pub sixteen : length (s .regs) ≡ 16
   pub regs : Words (s .regs)
   pub words : Words (s .memory)
