@@ -78,11 +78,16 @@ fn h_data_addresses(forward: Turn, back: Turn) {
     }
 }
 
+/// Quotient 0 leaves r1; another quotient shows that the word does something.
 fn i_division_by_zero(forward: Turn) {
-    let mut m = one_word(0, word_o(35, 3, R1, R2, R3));
-    m.record.regs[R2] = 7;
-    assert_eq!(m.turn(forward), 0);
-    assert_eq!(m.record.regs[R1], 0);
+    for (divisor, r1) in [(0, 9), (7, 8), (2, 10)] {
+        let mut m = one_word(0, word_o(35, 3, R1, R2, R3));
+        m.record.regs[R1] = 9;
+        m.record.regs[R2] = 7;
+        m.record.regs[R3] = divisor;
+        assert_eq!(m.turn(forward), 0);
+        assert_eq!(m.record.regs[R1], r1);
+    }
 }
 
 /// A qif from node 1 to node 2 (coin 0, w = 2) or 3 (coin 1, w = 0).

@@ -1,8 +1,8 @@
 -- Left and Right. Assumes nothing.
 use mathlib.Core.Path.{_≡_, refl, sym, ap, ap₂, _∙_, subst}
 use mathlib.Core.Bool.{Bool, true, false}
-use mathlib.Core.List.{List, _++_}
-use Prim.Native.Nat.{ℕ, zero, suc, _+_, _-_, _*_, _<_, _≤_}
+use mathlib.Core.List.{List}
+use Prim.Native.Nat.{ℕ, zero, suc, _+_, _-_, _<_, _≤_}
 use native.Mathlib.Omega.{arith}
 use native.Mathlib.Decide.{decLe}
 use lib.Dec.{eqb}
@@ -12,19 +12,19 @@ use Rattle.word.specs.Word.{pick}
 use Rattle.step.specs.declared.Direction.{Direction}
 use Rattle.step.specs.declared.Direction.the-variants.{Forward, Back}
 use Rattle.step.specs.declared.Attempt.{Attempt}
-use Rattle.step.specs.State.{State, seen}
+use Rattle.step.specs.Table.{tableWords}
+use Rattle.step.specs.View.{View}
 use Rattle.step.specs.Step.{number}
 use Rattle.machine.specs.Turn.{planned, turned}
-use Rattle.machine.specs.Calls.{Machine, machineOf, statusOf, recordOf, stateOf, planOf, stateAfter, turnOf, memoryOf, refusal, next, Leads}
-use Rattle.machine.specs.Batch.{after, Count, CountOf, batchOf, batchMemory}
-use Rattle.machine.specs.Claims.{Fitting}
+use Rattle.machine.specs.Calls.{Machine, Bounded, machineOf, statusOf, updated, viewOf, planOf, viewAfter, TurnPromise, refusal, next}
+use Rattle.machine.specs.Batch.{after, BatchPromise}
 use Rattle.machine.specs.declared.Record.{Record}
 use Rattle.machine.specs.declared.Turned.{Turned}
 use Rattle.machine.specs.declared.Batch.{Batch}
-use Rattle.machine.proofs.Claims.{next-sizes, next-view, next-excess, refused-keeps, turn-home}
-use Rattle.lists.specs.Lists.{Call, Left, Straight, Alike, AlikeTables, Right, LeftAndRight}
+use Rattle.machine.proofs.Claims.{next-view, next-excess, refused-keeps, turn-home}
+use Rattle.lists.specs.Lists.{accepted, Call, Left, Straight, Alike, AlikeTables, Right, LeftAndRight}
 use Rattle.lists.specs.Lists.Call.{single, batch}
-use Rattle.lists.specs.Lists.Left.{empty, then-forward, then-back}
+use Rattle.lists.specs.Lists.Left.{empty, then}
 use Rattle.lists.specs.Lists.Straight.{none, turn}
 use Rattle.lists.proofs.Reversible as R
 
@@ -33,10 +33,10 @@ module _ (table : List ℕ) where
   Accepts d x = refusal table d x ≡ 0
 
   abbrev Runs : Direction → ℕ → Machine → Machine → Type 0
-  Runs = R.Runs Machine Accepts (next table)
+  Runs = R.Runs Machine Accepts (next table) Bounded
 
   abbrev Tour : ℕ → ℕ → Machine → Machine → Type 0
-  Tour = R.Tour Machine Accepts (next table)
+  Tour = R.Tour Machine Accepts (next table) Bounded
 
   -- ---- each call is a run of its accepted turns
 
@@ -49,39 +49,48 @@ module _ (table : List ℕ) where
   many-run d zero x h = refl
   many-run d (suc k) x h = (h 0 (omega arith), many-run d k (next table d x) (λ j l. h (suc j) (omega arith)))
 
-  call-run : {x y : Machine} {d : Direction} {k : ℕ} → Call table x d k y → Runs d k x y
-  call-run (single d x a mem p q) =
-      let e : machineOf (a .state) mem ≡ next table d x = λ j. machineOf (p j .state) (q j) in
-      subst (Runs d (pick (eqb (a .refusal) 0) 1 0) x) (sym e)
-      (subst (λ (w : ℕ). Runs d (pick (eqb w 0) 1 0) x (next table d x)) (sym (ap (λ (t : Turned). t .refusal) p))
+  single-run : {d : Direction} {x : Machine} {a : Turned} {mem : List ℕ} → TurnPromise d (x .state) (x .memory) table a mem
+      → Runs d (accepted (a .refusal)) x (machineOf (a .state) mem)
+  single-run {d} {x} {a} {mem} p =
+      let e : machineOf (a .state) mem ≡ next table d x = λ j. machineOf (p .answer j .state) (p .memory j) in
+      subst (Runs d (accepted (a .refusal)) x) (sym e)
+      (subst (λ (w : ℕ). Runs d (accepted w) x (next table d x)) (sym (ap (λ (t : Turned). t .refusal) (p .answer)))
       (one-run d x (eqb (refusal table d x) 0) refl))
-  call-run (batch d n x a mem c p q) =
-      let e : machineOf (a .state) mem ≡ after table d (a .turns) x = λ j. machineOf (p j .state) (q j) in
-      subst (Runs d (a .turns) x) (sym e) (many-run d (a .turns) x (c .accepted))
+
+  batch-run : {d : Direction} {n : ℕ} {x : Machine} {a : Batch} {mem : List ℕ} → BatchPromise d n (x .state) (x .memory) table a mem
+      → Runs d (a .turns) x (machineOf (a .state) mem)
+  batch-run {d} {n} {x} {a} {mem} p =
+      let e : machineOf (a .state) mem ≡ after table d (a .turns) x = λ j. machineOf (p .answer j .state) (p .memory j) in
+      subst (Runs d (a .turns) x) (sym e) (many-run d (a .turns) x (p .count .accepted))
+
+  -- ---- so a list of calls is a tour
+
+  go-on : {x y z : Machine} {f b p q : ℕ} → Tour f b x y → Call table y p q z → Tour (p + f) (q + b) x z
+  go-on t (single d y a mem p) = R.then-run Machine Accepts (next table) Bounded (turn-home table) d (accepted (a .refusal)) t (p .bounds) (single-run p)
+  go-on t (batch d n y a mem p) = R.then-run Machine Accepts (next table) Bounded (turn-home table) d (a .turns) t (p .bounds) (batch-run p)
 
   tour : {x y : Machine} {f b : ℕ} → Left table x f b y → Tour f b x y
   tour empty = R.Tour.empty
-  tour (then-forward {k = k} l c) = R.Tour.then-forward k (tour l) (call-run c)
-  tour (then-back {k = k} l c) = R.Tour.then-back k (tour l) (call-run c)
+  tour (then l c) = go-on (tour l) c
 
 -- ---- the same turns on Right's own lent words
 
 module _ (table other : List ℕ) (d : Direction) where
   -- what a turn reads is shared, so it plans the same, and each keeps its excess
   module _ (x y : Machine) (a : Alike x y) (t : AlikeTables x table other) where
-    same-state : stateOf (y .state) (y .memory) ≡ stateOf (x .state) (x .memory)
-    same-state =
-        ap (λ (r : Record). stateOf r (y .memory)) (a .state)
+    same-view : viewOf (y .state) (y .memory) ≡ viewOf (x .state) (x .memory)
+    same-view =
+        ap (λ (r : Record). viewOf r (y .memory)) (a .state)
         ∙ ap (λ (l : List ℕ). record { at = statusOf (x .state); regs = x .state .regs; memory = l }) (a .memory)
 
-    same-nodes : take (9 * y .state .n) other ≡ take (9 * x .state .n) table
-    same-nodes = ap (λ (r : Record). take (9 * r .n) other) (a .state) ∙ t
+    same-nodes : take (tableWords (y .state .n)) other ≡ take (tableWords (x .state .n)) table
+    same-nodes = ap (λ (r : Record). take (tableWords (r .n)) other) (a .state) ∙ t
 
     same-plan : planOf d (y .state) (y .memory) other ≡ planOf d (x .state) (x .memory) table
-    same-plan = ap₂ (λ (l : List ℕ) (s : State). planned l d s) same-nodes same-state
+    same-plan = ap₂ (λ (l : List ℕ) (s : View). planned l d s) same-nodes same-view
 
-    same-after : stateAfter d (y .state) (y .memory) other ≡ stateAfter d (x .state) (x .memory) table
-    same-after = ap₂ (turned d) same-plan same-state
+    same-after : viewAfter d (y .state) (y .memory) other ≡ viewAfter d (x .state) (x .memory) table
+    same-after = ap₂ (turned d) same-plan same-view
 
     same-m : y .state .m ≡ x .state .m
     same-m = ap (λ (r : Record). r .m) (a .state)
@@ -89,15 +98,11 @@ module _ (table other : List ℕ) (d : Direction) where
     alike-next : Alike (next table d x) (next other d y)
     alike-next =
         record {
-          state = ap (λ (s : State). recordOf (s .at) (s .regs)) same-after;
+          state = ap₂ (λ (r : Record) (s : View). updated r (s .at) (s .regs)) (a .state) same-after;
           memory =
-              rw (next-sizes table d x .m)
-              (subst (λ (m : ℕ). take m (next other d y .memory) ≡ stateAfter d (y .state) (y .memory) other .memory) same-m (next-view other d y)
-              ∙ (ap (λ (s : State). s .memory) same-after ∙ sym (next-view table d x)));
+              subst (λ (m : ℕ). take m (next other d y .memory) ≡ viewAfter d (y .state) (y .memory) other .memory) same-m (next-view other d y)
+              ∙ (ap (λ (s : View). s .memory) same-after ∙ sym (next-view table d x));
         }
-
-    tables-next : AlikeTables (next table d x) table other
-    tables-next = rw (next-sizes table d x .n) t
 
   -- where a run ends on Right's words
   record Follows (k : ℕ) (x z y : Machine) : Type 0 where
@@ -111,16 +116,15 @@ module _ (table other : List ℕ) (d : Direction) where
   follow zero x z y a t e =
       subst (λ (u : Machine). Follows 0 x u y) e (record { end = y; straight = none; alike = a; tables = t; excess = refl })
   follow (suc k) x z y a t r =
-      let f = follow k (next table d x) z (next other d y) (alike-next x y a t) (tables-next x y a t) (r .1) in
+      let f = follow k (next table d x) z (next other d y) (alike-next x y a t) t (r .1) in
       let w : refusal other d y ≡ 0 = ap number (same-plan x y a t) ∙ r .0 in
-      let m = next-sizes table d x .m in
       record {
         end = f .end;
         straight = turn (w, refl) (f .straight);
         alike = f .alike;
         tables = f .tables;
         excess =
-            subst (λ (n : ℕ). drop n (f .end .memory) ≡ drop n (next other d y .memory)) m (f .excess)
+            f .excess
             ∙ subst (λ (n : ℕ). drop n (next other d y .memory) ≡ drop n (y .memory)) (same-m x y a t) (next-excess other d y);
       }
 
@@ -132,10 +136,10 @@ still {other} {d′ = d′} j {x} none e z = subst (λ (n : ℕ). Straight other
 still j (turn l s) e z = absurd (omega arith)
 
 pub left-and-right : LeftAndRight
-left-and-right table other x y right f b g a t l = go (decLe b f)
+left-and-right table other x y right f b a t l = go (decLe b f)
   where
-    net : R.Net Machine (Accepts table) (next table) Forward f b x y
-    net = R.net Machine (Accepts table) (next table) Fitting (turn-home table) (tour table l) g
+    net : R.Net Machine (Accepts table) (next table) Bounded Forward f b x y
+    net = R.net Machine (Accepts table) (next table) Bounded (turn-home table) (tour table l)
 
     m : right .state .m ≡ x .state .m
     m = ap (λ (r : Record). r .m) (a .state)

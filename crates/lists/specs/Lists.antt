@@ -1,5 +1,5 @@
 -- Demand 3 (document 01, "Left and Right"): one claim about whole lists of calls. Proved in proofs/Lists.
-use Prim.Native.Nat.{ℕ, zero, suc, _+_, _-_, _*_, _≤_}
+use Prim.Native.Nat.{ℕ, suc, _+_, _-_, _≤_}
 use mathlib.Core.Path.{_≡_}
 use mathlib.Core.List.{List}
 use lib.Dec.{eqb}
@@ -7,32 +7,33 @@ use lib.ListN.{take, drop}
 use Rattle.word.specs.Word.{pick}
 use Rattle.step.specs.declared.Direction.{Direction}
 use Rattle.step.specs.declared.Direction.the-variants.{Forward, Back}
-use Rattle.machine.specs.Calls.{Machine, machineOf, turnOf, memoryOf, Leads}
-use Rattle.machine.specs.Batch.{CountOf, batchOf, batchMemory}
-use Rattle.machine.specs.Claims.{Fitting}
+use Rattle.step.specs.Table.{tableWords}
+use Rattle.step.specs.View.{byWay}
+use Rattle.machine.specs.Calls.{Machine, machineOf, TurnPromise, Leads}
+use Rattle.machine.specs.Batch.{BatchPromise}
 use Rattle.machine.specs.declared.Turned.{Turned}
 use Rattle.machine.specs.declared.Batch.{Batch}
 
 -- ---- Left: a list of calls
 
--- One call from x: its direction, its accepted turns, and the machine that it leaves, with what its contract promises
--- of the answer a and of the memory at exit. A single turn counts 1 where its refusal is 0, a batch counts its k.
-pub data Call (table : List ℕ) : Machine → Direction → ℕ → Machine → Type 0 where
+-- a single turn counts 1 where its refusal is 0
+abbrev pub accepted : ℕ → ℕ
+accepted refusal = pick (eqb refusal 0) 1 0
+
+-- One call from x: its accepted turns forward and back, and the machine that it leaves, with what it promises of the
+-- answer a and of the memory at exit. A single turn counts its acceptance, a batch counts its k, this way alone.
+pub data Call (table : List ℕ) : Machine → ℕ → ℕ → Machine → Type 0 where
   single : (d : Direction) (x : Machine) (a : Turned) (mem : List ℕ)
-      → a ≡ turnOf d (x .state) (x .memory) table
-      → mem ≡ memoryOf d (x .state) (x .memory) table
-      → Call table x d (pick (eqb (a .refusal) 0) 1 0) (machineOf (a .state) mem)
+      → TurnPromise d (x .state) (x .memory) table a mem
+      → Call table x (byWay d (accepted (a .refusal)) 0) (byWay d 0 (accepted (a .refusal))) (machineOf (a .state) mem)
   batch : (d : Direction) (n : ℕ) (x : Machine) (a : Batch) (mem : List ℕ)
-      → CountOf d n (x .state) (x .memory) table (a .turns)
-      → a ≡ batchOf d n (a .turns) (x .state) (x .memory) table
-      → mem ≡ batchMemory d (a .turns) (x .state) (x .memory) table
-      → Call table x d (a .turns) (machineOf (a .state) mem)
+      → BatchPromise d n (x .state) (x .memory) table a mem
+      → Call table x (byWay d (a .turns) 0) (byWay d 0 (a .turns)) (machineOf (a .state) mem)
 
 -- Calls from x to y, each on what the last one left, with all accepted turns forward, f, and back, b. The list may be empty.
 pub data Left (table : List ℕ) : Machine → ℕ → ℕ → Machine → Type 0 where
   empty : {x : Machine} → Left table x 0 0 x
-  then-forward : {x y z : Machine} {f b k : ℕ} → Left table x f b y → Call table y Forward k z → Left table x (k + f) b z
-  then-back : {x y z : Machine} {f b k : ℕ} → Left table x f b y → Call table y Back k z → Left table x f (k + b) z
+  then : {x y z : Machine} {f b p q : ℕ} → Left table x f b y → Call table y p q z → Left table x (p + f) (q + b) z
 
 -- ---- Right: single turns straight
 
@@ -50,7 +51,7 @@ pub record Alike (x y : Machine) : Type 0 where
 
 -- the same first 9 N words
 abbrev pub AlikeTables : Machine → List ℕ → List ℕ → Type 0
-AlikeTables x table other = take (9 * x .state .n) other ≡ take (9 * x .state .n) table
+AlikeTables x table other = take (tableWords (x .state .n)) other ≡ take (tableWords (x .state .n)) table
 
 -- Right from x, after f accepted turns forward and b back that led Left to y
 pub record Right (table other : List ℕ) (x : Machine) (f b : ℕ) (y : Machine) : Type 0 where
@@ -61,8 +62,9 @@ pub record Right (table other : List ℕ) (x : Machine) (f b : ℕ) (y : Machine
   pub tables : AlikeTables y table other
   pub excess : drop (x .state .m) (machine .memory) ≡ drop (x .state .m) (x .memory)
 
--- Left from x, Right from the same with an excess of its own: Right's turns by the net count are never refused, and both end alike
+-- Left from x, Right from the same with an excess of its own: Right's turns by the net count are never refused, and both
+-- end alike. Nothing is assumed of x: what the law of a turn asks of the machine, each call has promised.
 abbrev pub LeftAndRight : Type 0
 LeftAndRight =
-    (table other : List ℕ) (x y right : Machine) (f b : ℕ) → Fitting x
+    (table other : List ℕ) (x y right : Machine) (f b : ℕ)
     → Alike x right → AlikeTables x table other → Left table x f b y → Right table other right f b y

@@ -2,44 +2,51 @@
 use mathlib.Core.Path.{_≡_, refl, sym, ap, ap₂, _∙_, subst}
 use mathlib.Core.Logic.{_≢_}
 use mathlib.Core.List.{List, _++_}
-use Prim.Native.Nat.{ℕ, _*_}
+use Prim.Native.Nat.{ℕ}
 use lib.ListN.{length, take, drop, take-append-drop}
 use Rattle.step.specs.declared.Status.{Status}
 use Rattle.step.specs.declared.Direction.{Direction}
 use Rattle.step.specs.declared.Direction.the-variants.{Forward, Back}
 use Rattle.step.specs.declared.Attempt.{Attempt}
 use Rattle.step.specs.declared.Attempt.the-variants.{Refused, Does}
-use Rattle.step.specs.State.{State, Fits, seen, nodes, flip}
+use Rattle.step.specs.View.{View, Bounds, nodes, flip}
 use Rattle.step.proofs.Views.{seam-take, seam-drop, seam-long}
-use Rattle.step.proofs.Sized.{SameSizes, marked-sizes, stored-long}
+use Rattle.step.proofs.Sized.{SameSizes, marked-sizes}
 use Rattle.step.specs.Step.{number}
-use Rattle.machine.specs.Turn.{from, planned, turned}
-use Rattle.machine.specs.Calls.{Machine, statusOf, recordOf, stateOf, planOf, stateAfter, refusal, next, Leads}
-use Rattle.machine.specs.Claims.{Fitting, Harmless, Inverse, Origin, OneOrigin}
+use Rattle.machine.specs.Turn.{planned, turned}
+use Rattle.machine.specs.Calls.{Machine, Bounded, machineOf, statusOf, updated, viewOf, planOf, viewAfter, TurnPromise, refusal, next, Leads}
+use Rattle.machine.specs.Claims.{Harmless, Inverse, Origin, OneOrigin, OnCalls}
+use Rattle.machine.specs.declared.Record.{Record}
+use Rattle.machine.proofs.Moves.{turned-long}
 use Rattle.machine.proofs.Inverse.{Reversed, turn-back}
+use Rattle.machine.specs.declared.Turned.{Turned}
 use Rattle.machine.proofs.Sure.{Made, made, unmade}
 
--- ---- a turn keeps the sizes
+-- ---- the sizes stay
 
-pub turned-sizes : (d : Direction) (x : Attempt) (s : State) → SameSizes (s .at) (turned d x s .at)
+-- so what was left in a record is what the next turn sees
+pub same-status : (r : Record) (at : Status) (regs : List ℕ) → SameSizes (statusOf r) at → statusOf (updated r at regs) ≡ at
+same-status r at regs z =
+    let k = sym (z .k) in
+    let m = sym (z .m) in
+    let n = sym (z .n) in
+    λ j. record { qifv = at .qifv; qifw = at .qifw; k = k j; m = m j; n = n j }
+
+pub turned-sizes : (d : Direction) (x : Attempt) (s : View) → SameSizes (s .at) (turned d x s .at)
 turned-sizes d (Refused n) s = record { k = refl; m = refl; n = refl }
 turned-sizes d (Does e) s = marked-sizes e (s .at)
-
-turned-long : (d : Direction) (x : Attempt) (s : State) → length (turned d x s .memory) ≡ length (s .memory)
-turned-long d (Refused n) s = refl
-turned-long d (Does e) s = stored-long e (from d s .regs) (s .memory)
 
 -- ---- the lent memory: what a turn leaves in front, and the excess
 
 module _ (table : List ℕ) (d : Direction) (x : Machine) where
-  abbrev s : State
-  s = stateOf (x .state) (x .memory)
+  abbrev s : View
+  s = viewOf (x .state) (x .memory)
 
   abbrev plan : Attempt
   plan = planOf d (x .state) (x .memory) table
 
-  abbrev s′ : State
-  s′ = stateAfter d (x .state) (x .memory) table
+  abbrev s′ : View
+  s′ = viewAfter d (x .state) (x .memory) table
 
   pub next-sizes : SameSizes (s .at) (s′ .at)
   next-sizes = turned-sizes d plan s
@@ -57,20 +64,17 @@ module _ (table : List ℕ) (d : Direction) (x : Machine) where
   next-view = seam-take (x .memory) (s′ .memory) (x .state .m) long
 
   -- the state that the next call sees
-  pub next-state : stateOf (next table d x .state) (next table d x .memory) ≡ s′
-  next-state =
-      let e : take (s′ .at .m) (next table d x .memory) ≡ s′ .memory = rw (next-sizes .m) next-view in
-      λ j. record { at = s′ .at; regs = s′ .regs; memory = e j }
-
-  next-nodes : nodes (s′ .at) table ≡ nodes (s .at) table
-  next-nodes = ap (λ (n : ℕ). take (9 * n) table) (next-sizes .n)
+  pub next-seen : viewOf (next table d x .state) (next table d x .memory) ≡ s′
+  next-seen =
+      let a = same-status (x .state) (s′ .at) (s′ .regs) next-sizes in
+      λ j. record { at = a j; regs = s′ .regs; memory = next-view j }
 
   pub refused-keeps : refusal table d x ≢ 0 → next table d x ≡ x
   refused-keeps h =
       let e : s′ ≡ s = unmade d plan s h in
       rw e (ap (λ (l : List ℕ). record { state = x .state; memory = l }) (take-append-drop (x .state .m) (x .memory)))
 
-  module _ (g : Fitting x) (h : refusal table d x ≡ 0) where
+  module _ (g : Bounded x) (h : refusal table d x ≡ 0) where
     effect : Made plan
     effect = made (nodes (s .at) table) d s h
 
@@ -81,30 +85,27 @@ module _ (table : List ℕ) (d : Direction) (x : Machine) where
     reversed = subst (Reversed (nodes (s .at) table) d s) is-next (turn-back (nodes (s .at) table) d s g (effect .is))
 
     plan-back : planOf (flip d) (next table d x .state) (next table d x .memory) table ≡ Does (reversed .by)
-    plan-back = ap₂ (λ (t : List ℕ) (u : State). planned t (flip d) u) next-nodes next-state ∙ reversed .plan
+    plan-back = ap (planned (nodes (s .at) table) (flip d)) next-seen ∙ reversed .plan
 
-    state-back : stateAfter (flip d) (next table d x .state) (next table d x .memory) table ≡ s
-    state-back = ap₂ (turned (flip d)) plan-back next-state ∙ reversed .home
+    view-back : viewAfter (flip d) (next table d x .state) (next table d x .memory) table ≡ s
+    view-back = ap₂ (turned (flip d)) plan-back next-seen ∙ reversed .home
 
-    pub turn-home : (refusal table (flip d) (next table d x) ≡ 0) × (next table (flip d) (next table d x) ≡ x) × Fitting (next table d x)
+    pub turn-home : (refusal table (flip d) (next table d x) ≡ 0) × (next table (flip d) (next table d x) ≡ x) × Bounded (next table d x)
     turn-home = (
       ap number plan-back,
       λ j. record {
-        state = recordOf (state-back j .at) (state-back j .regs);
-        memory = (ap₂ (λ (l r : List ℕ). l ++ r) (ap (λ (u : State). u .memory) state-back) rest ∙ take-append-drop (x .state .m) (x .memory)) j;
+        state = updated (x .state) (view-back j .at) (view-back j .regs);
+        memory = (ap₂ (λ (l r : List ℕ). l ++ r) (ap (λ (u : View). u .memory) view-back) next-excess ∙ take-append-drop (x .state .m) (x .memory)) j;
       },
-      subst Fits (sym next-state) (reversed .fits),
+      subst Bounds (sym next-seen) (reversed .bounds),
     )
-      where
-        rest : drop (s′ .at .m) (next table d x .memory) ≡ drop (x .state .m) (x .memory)
-        rest = ap (λ (m : ℕ). drop m (next table d x .memory)) (next-sizes .m) ∙ next-excess
 
 -- ---- the claims
 
 pub harmless : Harmless
 harmless = record { refused = refused-keeps; excess = next-excess }
 
-leads-back : (table : List ℕ) (d : Direction) (x y : Machine) → Fitting x → Leads table d x y → Leads table (flip d) y x
+leads-back : (table : List ℕ) (d : Direction) (x y : Machine) → Bounded x → Leads table d x y → Leads table (flip d) y x
 leads-back table d x y g h =
     let p = turn-home table d x g (h .0) in
     subst (λ (z : Machine). Leads table (flip d) z x) (h .1) (p .0, p .1)
@@ -121,8 +122,49 @@ one-origin =
     }
   where
     yields : (table : List ℕ) (d : Direction) (y : Machine) (e : Origin table d y) → Leads table (flip d) y (e .machine)
-    yields table d y e = leads-back table d (e .machine) y (e .fits) (e .leads)
+    yields table d y e = leads-back table d (e .machine) y (e .bounds) (e .leads)
 
-    exists : (table : List ℕ) (d : Direction) (y : Machine) → Fitting y → refusal table (flip d) y ≡ 0 → Origin table d y
-    exists table Forward y g h = let p = turn-home table Back y g h in record { machine = next table Back y; fits = p .2; leads = (p .0, p .1) }
-    exists table Back y g h = let p = turn-home table Forward y g h in record { machine = next table Forward y; fits = p .2; leads = (p .0, p .1) }
+    exists : (table : List ℕ) (d : Direction) (y : Machine) → Bounded y → refusal table (flip d) y ≡ 0 → Origin table d y
+    exists table Forward y g h = let p = turn-home table Back y g h in record { machine = next table Back y; bounds = p .2; leads = (p .0, p .1) }
+    exists table Back y g h = let p = turn-home table Forward y g h in record { machine = next table Forward y; bounds = p .2; leads = (p .0, p .1) }
+
+-- ---- and of calls, by their promises
+
+module _ {d : Direction} {r : Record} {mem table : List ℕ} {a : Turned} {mem′ : List ℕ} (p : TurnPromise d r mem table a mem′) where
+  abbrev from-call : Machine
+  from-call = machineOf r mem
+
+  left : next table d from-call ≡ machineOf (a .state) mem′
+  left = sym (λ j. machineOf (p .answer j .state) (p .memory j))
+
+  answered : refusal table d from-call ≡ a .refusal
+  answered = sym (ap (λ (t : Turned). t .refusal) (p .answer))
+
+  call-undone : (b : Turned) (mem″ : List ℕ) → a .refusal ≡ 0 → TurnPromise (flip d) (a .state) mem′ table b mem″
+      → (b ≡ record { refusal = 0; state = r }) × (mem″ ≡ mem)
+  call-undone b mem″ z q =
+      let h = leads-back table d from-call (machineOf (a .state) mem′) (p .bounds) (answered ∙ z, left) in (
+        q .answer ∙ (λ j. record { refusal = h .0 j; state = h .1 j .state }),
+        q .memory ∙ ap (λ (x : Machine). x .memory) (h .1),
+      )
+
+  call-accepted : (e : Origin table (flip d) from-call) → Leads table d from-call (e .machine) → (a .refusal ≡ 0) × (machineOf (a .state) mem′ ≡ e .machine)
+  call-accepted e l = (sym answered ∙ l .0, sym left ∙ l .1)
+
+pub on-calls : OnCalls
+on-calls =
+    record {
+      undone = λ d r mem table a b mem′ mem″ p z q. call-undone p b mem″ z q;
+      origin = origin;
+      accepted = accepted;
+    }
+  where
+    origin : (d : Direction) (r : Record) (mem table : List ℕ) (a : Turned) (mem′ : List ℕ) → TurnPromise d r mem table a mem′ → a .refusal ≡ 0
+        → Origin table (flip d) (machineOf r mem)
+    origin Forward r mem table a mem′ p z = one-origin .exists table Back (machineOf r mem) (p .bounds) (answered p ∙ z)
+    origin Back r mem table a mem′ p z = one-origin .exists table Forward (machineOf r mem) (p .bounds) (answered p ∙ z)
+
+    accepted : (d : Direction) (r : Record) (mem table : List ℕ) (a : Turned) (mem′ : List ℕ) → TurnPromise d r mem table a mem′
+        → (e : Origin table (flip d) (machineOf r mem)) → (a .refusal ≡ 0) × (machineOf (a .state) mem′ ≡ e .machine)
+    accepted Forward r mem table a mem′ p e = call-accepted p e (one-origin .yields table Back (machineOf r mem) e)
+    accepted Back r mem table a mem′ p e = call-accepted p e (one-origin .yields table Forward (machineOf r mem) e)

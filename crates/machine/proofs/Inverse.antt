@@ -2,7 +2,7 @@
 use mathlib.Core.Path.{_≡_, refl, sym, ap, ap₂, _∙_, subst}
 use mathlib.Core.Bool.{Bool, true, false, not, _&&_, true≢false}
 use mathlib.Core.List.{List}
-use Prim.Native.Nat.{ℕ, _*_, _^_, _<_, _≤_}
+use Prim.Native.Nat.{ℕ, _^_, _<_, _≤_}
 use native.Mathlib.Omega.{arith}
 use lib.Dec.{eqb, ltb, leb}
 use lib.ListN.{length, getD, set, length-set}
@@ -19,11 +19,12 @@ use Rattle.step.specs.declared.Effect.{Effect}
 use Rattle.step.specs.declared.Effect.the-variants.{Nothing, Write, WriteTwo, SwapWord, SetNode}
 use Rattle.step.specs.declared.Attempt.{Attempt}
 use Rattle.step.specs.declared.Attempt.the-variants.{Refused, Does}
-use Rattle.step.specs.State.{State, Words, Fits, reg, flip}
-use Rattle.step.specs.Step.{shifted, marked, written, stored, performed, refuse, attempt}
+use Rattle.step.specs.View.{View, Words, Bounds, reg, flip}
+use Rattle.step.specs.Step.{shifted, marked, written, stored, performed, refuse, isReady, attempt}
 use Rattle.step.proofs.Sized.{SameSizes, marked-sizes, written-long, stored-long}
 use Rattle.step.proofs.Undo.{Fair, Undone, undone, refused-no, inside, passed, set-back, words-set, shifted-word, shifted-back}
-use Rattle.machine.specs.Turn.{pc, br, atPc, stride, movedPc, fromPc, toPc, from, to, isCode, starts, finishes, isReady, badSizes, nextPc, nextOf, landed, judged, executed, planned, turned}
+use Rattle.step.specs.Sizes.{inRange, badSizes}
+use Rattle.machine.specs.Turn.{pc, br, atPc, stride, movedPc, fromPc, toPc, from, newPc, to, isCode, starts, finishes, landed, judged, executed, planned, turned}
 
 -- ---- pc's moves
 
@@ -58,7 +59,7 @@ to-from-pc Back wait p b hp hb = moved-back Back wait p b hp hb
 
 -- ---- the same of states
 
-module _ (s : State) (g : Fits s) where
+module _ (s : View) (g : Bounds s) where
   some-regs : 0 < length (s .regs)
   some-regs = rw (g .sixteen) (omega arith)
 
@@ -68,14 +69,14 @@ module _ (s : State) (g : Fits s) where
   br-at : (i : ℕ) → br (atPc s i) ≡ br s
   br-at i = getD-set-other (s .regs) 0 1 i 0 (omega arith)
 
-  fits-at : (i : ℕ) → i < 2 ^ 32 → Fits (atPc s i)
-  fits-at i h = record { sixteen = length-set (s .regs) 0 i ∙ g .sixteen; regs = words-set (s .regs) 0 i h (g .regs); words = g .words }
+  bounds-at : (i : ℕ) → i < 2 ^ 32 → Bounds (atPc s i)
+  bounds-at i h = record { sixteen = length-set (s .regs) 0 i ∙ g .sixteen; regs = words-set (s .regs) 0 i h (g .regs); words = g .words }
 
-  pub fits-from : (d : Direction) → Fits (from d s)
-  fits-from d = fits-at (fromPc d (s .at .qifw) (pc s) (br s)) (from-word d (s .at .qifw) (pc s) (br s) (g .regs 0))
+  pub bounds-from : (d : Direction) → Bounds (from d s)
+  bounds-from d = bounds-at (fromPc d (s .at .qifw) (pc s) (br s)) (from-word d (s .at .qifw) (pc s) (br s) (g .regs 0))
 
-  pub fits-to : (d : Direction) → Fits (to d s)
-  fits-to d = fits-at (toPc d (s .at .qifw) (pc s) (br s)) (to-word d (s .at .qifw) (pc s) (br s) (g .regs 0))
+  pub bounds-to : (d : Direction) → Bounds (to d s)
+  bounds-to d = bounds-at (toPc d (s .at .qifw) (pc s) (br s)) (to-word d (s .at .qifw) (pc s) (br s) (g .regs 0))
 
   -- pc set, and set by f to what it was
   home-at : (i : ℕ) (f : ℕ → ℕ → ℕ) → f i (br s) ≡ pc s → atPc (atPc s i) (f (pc (atPc s i)) (br (atPc s i))) ≡ s
@@ -93,66 +94,70 @@ module _ (s : State) (g : Fits s) where
 
 -- ---- what an effect keeps
 
-record Kept (s s′ : State) : Type 0 where
+record Kept (s s′ : View) : Type 0 where
   pc : reg s′ 0 ≡ reg s 0
   code : (j : ℕ) → j < s .at .k → getD (s′ .memory) j 0 ≡ getD (s .memory) j 0
-  fits : Fits s′
+  bounds : Bounds s′
 
-put-fits : (s : State) (a v : ℕ) → v < 2 ^ 32 → Fits s → Fits (record { at = s .at; regs = set (s .regs) a v; memory = s .memory })
-put-fits s a v h g = record { sixteen = length-set (s .regs) a v ∙ g .sixteen; regs = words-set (s .regs) a v h (g .regs); words = g .words }
+put-bounds : (s : View) (a v : ℕ) → v < 2 ^ 32 → Bounds s → Bounds (record { at = s .at; regs = set (s .regs) a v; memory = s .memory })
+put-bounds s a v h g = record { sixteen = length-set (s .regs) a v ∙ g .sixteen; regs = words-set (s .regs) a v h (g .regs); words = g .words }
 
-kept : (e : Effect) (s : State) → Fair e (s .at) → Fits s → Kept s (performed e s)
-kept Nothing s f g = record { pc = refl; code = λ j h. refl; fits = g }
+kept : (e : Effect) (s : View) → Fair e (s .at) → Bounds s → Kept s (performed e s)
+kept Nothing s f g = record { pc = refl; code = λ j h. refl; bounds = g }
 kept (Write a v) s f g =
-    record { pc = getD-set-other (s .regs) a 0 v 0 (omega (arith, f .0)); code = λ j h. refl; fits = put-fits s a v (f .1) g }
+    record { pc = getD-set-other (s .regs) a 0 v 0 (omega (arith, f .0)); code = λ j h. refl; bounds = put-bounds s a v (f .1) g }
 kept (WriteTwo a v b x) s f g =
     record {
       pc = getD-set-other (set (s .regs) a v) b 0 x 0 (omega (arith, f .2)) ∙ getD-set-other (s .regs) a 0 v 0 (omega (arith, f .0));
       code = λ j h. refl;
-      fits = put-fits (record { at = s .at; regs = set (s .regs) a v; memory = s .memory }) b x (f .3) (put-fits s a v (f .1) g);
+      bounds = put-bounds (record { at = s .at; regs = set (s .regs) a v; memory = s .memory }) b x (f .3) (put-bounds s a v (f .1) g);
     }
 kept (SwapWord a i) s f g =
-    let q = put-fits s a (getD (s .memory) i 0) (g .words i) g in
+    let q = put-bounds s a (getD (s .memory) i 0) (g .words i) g in
     record {
       pc = getD-set-other (s .regs) a 0 (getD (s .memory) i 0) 0 (omega (arith, f .0));
       code = λ j h. getD-set-other (s .memory) i j (reg s a) 0 (omega (arith, f .1));
-      fits = record { sixteen = q .sixteen; regs = q .regs; words = words-set (s .memory) i (reg s a) (g .regs a) (g .words) };
+      bounds = record { sixteen = q .sixteen; regs = q .regs; words = words-set (s .memory) i (reg s a) (g .regs a) (g .words) };
     }
-kept (SetNode u j) s f g = record { pc = refl; code = λ j h. refl; fits = record { sixteen = g .sixteen; regs = g .regs; words = g .words } }
+kept (SetNode u j) s f g = record { pc = refl; code = λ j h. refl; bounds = record { sixteen = g .sixteen; regs = g .regs; words = g .words } }
 
 -- ---- the tests of a turn, both ways
 
 -- the state whose pc must not be at start: after a turn forward, before a turn back
-abbrev edge : Direction → Effect → State → State
+abbrev edge : Direction → Effect → View → View
 edge Forward e s = to Forward (performed e (from Forward s))
 edge Back e s = s
 
-abbrev starting : State → List ℕ → Bool
+abbrev starting : View → List ℕ → Bool
 starting s l = isReady (s .at) && starts (s .at) l (pc s)
 
-record Accepted (t : List ℕ) (d : Direction) (s : State) (e : Effect) : Type 0 where
+record Accepted (t : List ℕ) (d : Direction) (s : View) (e : Effect) : Type 0 where
   sizes : badSizes (s .at) (s .memory) t ≡ false
   free : starting (edge d e s) (s .memory) ≡ false
   code : not (isCode (s .at) (pc (from d s))) ≡ false
   running : finishes (s .memory) (pc (from d s)) ≡ false
   does : executed t d (from d s) ≡ Does e
 
--- the test of landed, on the state after the turn
-landing : (e : Effect) (s : State) → Fits s
-    → eqb (marked e (s .at) .qifw) 0 && starts (s .at) (s .memory) (nextPc Forward e s) ≡ starting (to Forward (performed e s)) (s .memory)
-landing e s g =
-    let p : pc (to Forward (performed e s)) ≡ nextPc Forward e s =
-    getD-set-same (written e (s .regs) (s .memory)) 0 (nextPc Forward e s) 0 (rw (written-long e (s .regs) (s .memory), g .sixteen) (omega arith)) in
+-- the test of landed, on the view after the turn
+abbrev landing : Effect → View → Bool
+landing e s = isReady (marked e (s .at)) && starts (s .at) (s .memory) (newPc Forward (performed e s))
+
+landing-is : (e : Effect) (s : View) → Bounds s → landing e s ≡ starting (to Forward (performed e s)) (s .memory)
+landing-is e s g =
+    let i = newPc Forward (performed e s) in
+    let p : pc (to Forward (performed e s)) ≡ i =
+    getD-set-same (written e (s .regs) (s .memory)) 0 i 0 (rw (written-long e (s .regs) (s .memory), g .sixteen) (omega arith)) in
     rw (p, marked-sizes e (s .at) .k)
 
-landed-does : (s : State) (x : Attempt) {e : Effect} → Fits s → landed s (nextOf Forward x s) x ≡ Does e → (starting (to Forward (performed e s)) (s .memory) ≡ false) × (x ≡ Does e)
+landed-does : (s : View) (x : Attempt) {e : Effect} → Bounds s → landed Forward s x ≡ Does e → (starting (to Forward (performed e s)) (s .memory) ≡ false) × (x ≡ Does e)
+unfolding landed
 landed-does s (Refused n) g h = absurd (refused-no h)
 landed-does s (Does f) {e} g h =
-    let p = passed (eqb (marked f (s .at) .qifw) 0 && starts (s .at) (s .memory) (nextPc Forward f s)) 18 _ h in
-    (subst (λ (x : Effect). starting (to Forward (performed x s)) (s .memory) ≡ false) (inside (p .1)) (sym (landing f s g) ∙ p .0), p .1)
+    let p = passed (landing f s) 18 _ h in
+    (subst (λ (x : Effect). starting (to Forward (performed x s)) (s .memory) ≡ false) (inside (p .1)) (sym (landing-is f s g) ∙ p .0), p .1)
 
 -- a finish is not undone: waiting there is refused by 14, else 18 comes
-no-finish : (t : List ℕ) (d : Direction) (s : State) {e : Effect} → executed t d s ≡ Does e
+no-finish : (t : List ℕ) (d : Direction) (s : View) {e : Effect} → executed t d s ≡ Does e
     → isReady (s .at) && finishes (s .memory) (pc s) ≡ false → finishes (s .memory) (pc s) ≡ false
 unfolding attempt decode operation line
 no-finish t d s {e} h k = go (finishes (s .memory) (pc s)) refl
@@ -165,13 +170,13 @@ no-finish t d s {e} h k = go (finishes (s .memory) (pc s)) refl
         let c = not-not (isReady (s .at)) (passed (not (isReady (s .at))) 14 _ q .0) in
         absurd (true≢false (rw (c, z) at k))
 
-accepted : (t : List ℕ) (d : Direction) (s : State) {e : Effect} → Fits s → planned t d s ≡ Does e → Accepted t d s e
-unfolding judged
+accepted : (t : List ℕ) (d : Direction) (s : View) {e : Effect} → Bounds s → planned t d s ≡ Does e → Accepted t d s e
+unfolding judged landed
 accepted t Forward s g h =
     let p = passed (badSizes (s .at) (s .memory) t) 10 _ h in
     let q = passed (not (isCode (s .at) (pc (from Forward s)))) 11 _ (p .1) in
     let r = passed (finishes (s .memory) (pc (from Forward s))) 12 _ (q .1) in
-    let l = landed-does (from Forward s) _ (fits-from s g Forward) (r .1) in
+    let l = landed-does (from Forward s) _ (bounds-from s g Forward) (r .1) in
     record { sizes = p .0; free = l .0; code = q .0; running = r .0; does = l .1 }
 accepted t Back s g h =
     let p = passed (badSizes (s .at) (s .memory) t) 10 _ h in
@@ -184,29 +189,25 @@ and-false : (b : Bool) → b && false ≡ false
 and-false true = refl
 and-false false = refl
 
-accepts : (t : List ℕ) (d : Direction) (s : State) {e : Effect} → Fits s → Accepted t d s e → planned t d s ≡ Does e
-unfolding judged refuse
-accepts t Forward s {e} g a = rw (a .sizes, a .code, a .running, a .does, landing e (from Forward s) (fits-from s g Forward), a .free)
-accepts t Back s g a = rw (a .sizes, a .free, a .code, a .running, and-false (isReady (s .at))) (a .does)
+accepts : (t : List ℕ) (d : Direction) (s : View) {e : Effect} → Bounds s → Accepted t d s e → planned t d s ≡ Does e
+unfolding judged landed refuse
+accepts t Forward s {e} g a = rw (a .sizes, a .code, a .running, a .does, landing-is e (from Forward s) (bounds-from s g Forward), a .free)
+accepts t Back s g a = rw (a .sizes, a .free, a .code, a .running, and-false (isReady (s .at)), a .does)
 
 -- ---- the law
 
 room-of : (t : List ℕ) (at : Status) (l : List ℕ) → badSizes at l t ≡ false → at .m ≤ length l
 unfolding badSizes
 room-of t at l h =
-    let enough = leb (at .m) (length l) && leb (9 * at .n) (length t) in
-    let p = and-true (ltb 0 (at .k)) _ (not-not _ h) in
-    let p2 = and-true (leb (at .k) (at .m)) _ (p .1) in
-    let p3 = and-true (leb (at .m) 8192) _ (p2 .1) in
-    let p4 = and-true (leb (at .n) 511) enough (p3 .1) in
-    leb-true _ _ (and-true (leb (at .m) (length l)) _ (p4 .1) .0)
+    let enough = and-true (inRange at) _ (not-not _ h) .1 in
+    leb-true _ _ (and-true (leb (at .m) (length l)) _ enough .0)
 
 same-sizes : (t : List ℕ) (at at′ : Status) (l l′ : List ℕ) → SameSizes at at′ → length l′ ≡ length l → badSizes at′ l′ t ≡ badSizes at l t
-unfolding badSizes
+unfolding badSizes inRange
 same-sizes t at at′ l l′ z e = rw (z .k, z .m, z .n, e)
 
 -- starting looks at the code alone
-same-start : (s : State) (l l′ : List ℕ) → ((j : ℕ) → j < s .at .k → getD l′ j 0 ≡ getD l j 0) → starting s l′ ≡ starting s l
+same-start : (s : View) (l l′ : List ℕ) → ((j : ℕ) → j < s .at .k → getD l′ j 0 ≡ getD l j 0) → starting s l′ ≡ starting s l
 same-start s l l′ c = ap (λ (x : Bool). isReady (s .at) && x) (go (isCode (s .at) (pc s)) refl)
   where
     go : (b : Bool) → isCode (s .at) (pc s) ≡ b
@@ -214,30 +215,30 @@ same-start s l l′ c = ap (λ (x : Bool). isReady (s .at) && x) (go (isCode (s 
     go true z = rw (c (pc s) (ltb-true _ _ z))
     go false z = rw z
 
-edge-k : (d : Direction) (e : Effect) (s : State) → edge d e s .at .k ≡ s .at .k
+edge-k : (d : Direction) (e : Effect) (s : View) → edge d e s .at .k ≡ s .at .k
 edge-k Forward e s = marked-sizes e (s .at) .k
 edge-k Back e s = refl
 
-edge-back : (d : Direction) (e by : Effect) (s : State) → Fits (performed e (from d s)) → performed by (performed e (from d s)) ≡ from d s
+edge-back : (d : Direction) (e by : Effect) (s : View) → Bounds (performed e (from d s)) → performed by (performed e (from d s)) ≡ from d s
     → to (flip d) (from d s) ≡ s → edge (flip d) by (to d (performed e (from d s))) ≡ edge d e s
 edge-back Forward e by s g p q = refl
 edge-back Back e by s g p q =
-    ap (λ (x : State). to Forward (performed by x)) (from-to (performed e (from Back s)) g Back) ∙ (ap (to Forward) p ∙ q)
+    ap (λ (x : View). to Forward (performed by x)) (from-to (performed e (from Back s)) g Back) ∙ (ap (to Forward) p ∙ q)
 
-module _ (t : List ℕ) (d : Direction) (s : State) (g : Fits s) (e : Effect) (a : Accepted t d s e) where
-  abbrev before : State
+module _ (t : List ℕ) (d : Direction) (s : View) (g : Bounds s) (e : Effect) (a : Accepted t d s e) where
+  abbrev before : View
   before = from d s
 
-  abbrev after : State
+  abbrev after : View
   after = performed e before
 
   back : Undone t d (decode (getD (s .memory) (pc before) 0)) before e
   back =
-      undone t before (fits-from s g d) (room-of t (s .at) (s .memory) (a .sizes)) d (decode (getD (s .memory) (pc before) 0))
+      undone t before (bounds-from s g d) (room-of t (s .at) (s .memory) (a .sizes)) d (decode (getD (s .memory) (pc before) 0))
       (decode-formed (getD (s .memory) (pc before) 0)) (a .does)
 
   keeps : Kept before after
-  keeps = kept e before (back .fair) (fits-from s g d)
+  keeps = kept e before (back .fair) (bounds-from s g d)
 
   in-code : pc before < s .at .k
   in-code = ltb-true _ _ (not-not _ (a .code))
@@ -246,7 +247,7 @@ module _ (t : List ℕ) (d : Direction) (s : State) (g : Fits s) (e : Effect) (a
   same-word = rw (keeps .pc) (keeps .code (pc before) in-code)
 
   home : from (flip d) (to d after) ≡ after
-  home = from-to after (keeps .fits) d
+  home = from-to after (keeps .bounds) d
 
   whole : to (flip d) before ≡ s
   whole = to-from s g d
@@ -256,35 +257,35 @@ module _ (t : List ℕ) (d : Direction) (s : State) (g : Fits s) (e : Effect) (a
       record {
         sizes = same-sizes t (s .at) (after .at) (s .memory) (after .memory) (marked-sizes e (s .at)) (stored-long e (before .regs) (s .memory)) ∙ a .sizes;
         free =
-            rw (edge-back d e (back .by) s (keeps .fits) (back .home) whole)
+            rw (edge-back d e (back .by) s (keeps .bounds) (back .home) whole)
             (same-start (edge d e s) (s .memory) (after .memory) (λ j h. keeps .code j (rw (sym (edge-k d e s)) h)) ∙ a .free);
         code =
-            subst (λ (x : State). not (isCode (after .at) (pc x)) ≡ false) (sym home)
+            subst (λ (x : View). not (isCode (after .at) (pc x)) ≡ false) (sym home)
             (rw (keeps .pc, marked-sizes e (s .at) .k) (a .code));
         running =
-            subst (λ (x : State). finishes (after .memory) (pc x) ≡ false) (sym home)
+            subst (λ (x : View). finishes (after .memory) (pc x) ≡ false) (sym home)
             (ap (λ (w : ℕ). eqb w finishWord) same-word ∙ a .running);
         does =
-            subst (λ (x : State). executed t (flip d) x ≡ Does (back .by)) (sym home)
+            subst (λ (x : View). executed t (flip d) x ≡ Does (back .by)) (sym home)
             (ap (λ (w : ℕ). attempt t (flip d) (decode w) after) same-word ∙ back .does);
       }
 
-  turned-back : (planned t (flip d) (to d after) ≡ Does (back .by)) × (turned (flip d) (Does (back .by)) (to d after) ≡ s) × Fits (to d after)
+  turned-back : (planned t (flip d) (to d after) ≡ Does (back .by)) × (turned (flip d) (Does (back .by)) (to d after) ≡ s) × Bounds (to d after)
   turned-back = (
-    accepts t (flip d) (to d after) (fits-to after (keeps .fits) d) accepted-back,
-    ap (λ (x : State). to (flip d) (performed (back .by) x)) home ∙ (ap (to (flip d)) (back .home) ∙ whole),
-    fits-to after (keeps .fits) d,
+    accepts t (flip d) (to d after) (bounds-to after (keeps .bounds) d) accepted-back,
+    ap (λ (x : View). to (flip d) (performed (back .by) x)) home ∙ (ap (to (flip d)) (back .home) ∙ whole),
+    bounds-to after (keeps .bounds) d,
   )
 
 -- what the turn the other way does, after one that did e
-pub record Reversed (t : List ℕ) (d : Direction) (s s′ : State) : Type 0 where
+pub record Reversed (t : List ℕ) (d : Direction) (s s′ : View) : Type 0 where
   pub by : Effect
   pub plan : planned t (flip d) s′ ≡ Does by
   pub home : turned (flip d) (Does by) s′ ≡ s
-  pub fits : Fits s′
+  pub bounds : Bounds s′
 
-pub turn-back : (t : List ℕ) (d : Direction) (s : State) {e : Effect} → Fits s → planned t d s ≡ Does e → Reversed t d s (turned d (Does e) s)
+pub turn-back : (t : List ℕ) (d : Direction) (s : View) {e : Effect} → Bounds s → planned t d s ≡ Does e → Reversed t d s (turned d (Does e) s)
 turn-back t d s {e} g h =
     let a = accepted t d s g h in
     let r = turned-back t d s g e a in
-    record { by = back t d s g e a .by; plan = r .0; home = r .1; fits = r .2 }
+    record { by = back t d s g e a .by; plan = r .0; home = r .1; bounds = r .2 }

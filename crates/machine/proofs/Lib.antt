@@ -1,6 +1,9 @@
 pub mod Moves
-pub mod Inverse
 pub mod Sure
+pub mod InPlace
+pub mod Inverse
 pub mod Claims
+pub mod Given
 pub mod Runs
 pub mod Marks
+pub mod Instruction

@@ -10,7 +10,8 @@ use Rattle.word.proofs.Words.{and-true}
 use Rattle.qins.specs.Decode.{decode, operation, line, extended}
 use Rattle.step.specs.Table.{link, paired}
 use Rattle.step.specs.Step.{value, refuse, attempt, qif, child, enter}
-use Rattle.machine.specs.Turn.{badSizes, judged}
+use Rattle.step.specs.Sizes.{inRange, badSizes}
+use Rattle.machine.specs.Turn.{judged, landed}
 use Rattle.machine.specs.Batch.{after}
 use Rattle.machine.specs.Marks.{Mark, observed, Hold, marks}
 
@@ -37,7 +38,7 @@ hold (m ∷ rest) h =
     (equal-is _ _ (p .0), hold rest (p .1))
 
 tested : test marks ≡ true
-unfolding addWord subWord mulWord decode operation line extended link paired value refuse attempt qif child enter badSizes judged after
+unfolding addWord subWord mulWord decode operation line extended link paired value refuse attempt qif child enter inRange badSizes judged landed after
 tested = refl
 
 pub marks-hold : Hold marks

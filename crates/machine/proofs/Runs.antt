@@ -1,5 +1,5 @@
 -- What a loop of turns keeps, either way. Assumes nothing.
-use mathlib.Core.Path.{_≡_, refl, sym, ap, ap₂, _∙_, subst}
+use mathlib.Core.Path.{_≡_, refl, sym, ap, _∙_, subst}
 use mathlib.Core.Logic.{_≢_}
 use mathlib.Core.List.{List}
 use Prim.Native.Nat.{ℕ, zero, suc, _+_, _<_, _≤_}
@@ -12,12 +12,15 @@ use borrow.Author.Tests.{lt-ltb, le-ltb}
 use Rattle.word.specs.Word.{pick}
 use Rattle.step.specs.declared.Status.{Status}
 use Rattle.step.specs.declared.Direction.{Direction}
-use Rattle.machine.specs.Calls.{Machine, machineOf, statusOf, recordOf, stateOf, planOf, stateAfter, turnOf, memoryOf, refusal, next}
-use Rattle.machine.specs.Batch.{after, Count, batchOf, batchMemory, CountOf}
+use Rattle.step.specs.View.{Bounds}
+use Rattle.step.proofs.Sized.{SameSizes}
+use Rattle.machine.specs.Calls.{Machine, machineOf, statusOf, updated, viewOf, TurnPromise, refusal, next}
+use Rattle.machine.specs.InPlace.{Steps}
+use Rattle.machine.specs.Batch.{after, Count, batchOf, BatchPromise}
 use Rattle.machine.specs.declared.Record.{Record}
 use Rattle.machine.specs.declared.Batch.{Batch}
-use Rattle.machine.proofs.Moves.{turned-regs}
-use Rattle.machine.proofs.Claims.{refused-keeps, next-long}
+use Rattle.machine.proofs.InPlace.{steps-regs, steps-long}
+use Rattle.machine.proofs.Claims.{same-status, refused-keeps, next-sizes, next-long}
 
 module _ (table : List ℕ) (d : Direction) where
   -- one more at the end
@@ -83,73 +86,83 @@ module _ (table : List ℕ) (d : Direction) where
 
 -- ---- the loop's own terms: the registers and the status beside the record
 
--- the invariant: at₀, regs₀ and mem₀ are those that the loop starts from
-pub record Loop (table : List ℕ) (d : Direction) (n : ℕ) (at₀ : Status) (regs₀ mem₀ : List ℕ) (at : Status) (regs mem : List ℕ) (i : ℕ) : Type 0 where
-  pub run : Going table d n (machineOf (recordOf at₀ regs₀) mem₀) (machineOf (recordOf at regs) mem) i
+-- the invariant: the turns made, that the status has the record's sizes, and what the types gave at the start
+pub record Loop (table : List ℕ) (d : Direction) (n : ℕ) (r : Record) (mem₀ : List ℕ) (at : Status) (regs mem : List ℕ) (i : ℕ) : Type 0 where
+  pub run : Going table d n (machineOf r mem₀) (machineOf (updated r at regs) mem) i
+  pub sizes : SameSizes (statusOf r) at
   pub sixteen : length regs ≡ 16
+  pub bounds : Bounds (viewOf r mem₀)
 
-module _ (table : List ℕ) (d : Direction) (n : ℕ) (at₀ : Status) (regs₀ mem₀ : List ℕ) where
+pub loop-starts : {table : List ℕ} {d : Direction} {n : ℕ} {r : Record} {mem : List ℕ} {at : Status} → at ≡ statusOf r → Bounds (viewOf r mem)
+    → Loop table d n r mem at (r .regs) mem 0
+loop-starts {table} {d} {n} {r} {mem} e g =
+    subst (λ (a : Status). Loop table d n r mem a (r .regs) mem 0) (sym e)
+    (record { run = going table d n (machineOf r mem); sizes = record { k = refl; m = refl; n = refl }; sixteen = g .sixteen; bounds = g })
+
+module _ {table : List ℕ} {d : Direction} {n : ℕ} {r : Record} {mem₀ : List ℕ} {at : Status} {regs mem : List ℕ} {i : ℕ}
+    (inv : Loop table d n r mem₀ at regs mem i) where
   abbrev x : Machine
-  x = machineOf (recordOf at₀ regs₀) mem₀
+  x = machineOf r mem₀
 
-  -- what a way out of the loop after k turns gives
-  abbrev Left : ℕ → ℕ → Record → List ℕ → Type 0
-  Left k w r mem = Count table d n x k × (w ≡ batchOf d n k (recordOf at₀ regs₀) mem₀ table .refusal) × (machineOf r mem ≡ after table d k x)
+  abbrev y : Machine
+  y = machineOf (updated r at regs) mem
 
-  module _ (at : Status) (regs mem : List ℕ) (i : ℕ) (inv : Loop table d n at₀ regs₀ mem₀ at regs mem i) where
-    abbrev y : Machine
-    y = machineOf (recordOf at regs) mem
+  -- the promise, of an answer b after k turns with refusal w
+  abbrev Out : ℕ → ℕ → Record → List ℕ → Type 0
+  Out k w r′ mem′ = Count table d n x k × (w ≡ batchOf d n k r mem₀ table .refusal) × (machineOf r′ mem′ ≡ after table d k x)
 
-    pub done : n ≤ i → Left i 0 (recordOf at regs) mem
-    done h = ended table d n x y i (inv .run) h
+  promised : (k w : ℕ) (r′ : Record) (mem′ : List ℕ) (b : Batch) → Out k w r′ mem′ → b ≡ record { turns = k; refusal = w; state = r′ }
+      → BatchPromise d n r mem₀ table b mem′
+  promised k w r′ mem′ b h p =
+      subst (λ (z : Batch). BatchPromise d n r mem₀ table z mem′) (sym p)
+      (record {
+        count = h .0;
+        answer = λ j. record { turns = k; refusal = h .1 j; state = h .2 j .state };
+        memory = ap (λ (u : Machine). u .memory) (h .2);
+        bounds = inv .bounds;
+      })
 
-    -- a turn in place, as its contract has it
-    module _ (w : ℕ) (at′ : Status) (regs′ mem′ : List ℕ)
-        (f : (w ≡ refusal table d y) × (at′ ≡ stateAfter d (recordOf at regs) mem table .at)
-        × (regs′ ≡ stateAfter d (recordOf at regs) mem table .regs) × (mem′ ≡ memoryOf d (recordOf at regs) mem table)) where
-      -- is the turn of the whole record
-      stepped : next table d y ≡ machineOf (recordOf at′ regs′) mem′
-      stepped = sym (λ j. machineOf (recordOf (f .1 j) (f .2 j)) (f .3 j))
+  pub done : {b : Batch} → n ≤ i → b ≡ record { turns = i; refusal = 0; state = updated r at regs } → BatchPromise d n r mem₀ table b mem
+  done {b} h p = promised i 0 (updated r at regs) mem b (ended table d n x y i (inv .run) h) p
 
-      pub kept-long : length mem′ ≡ length mem₀
-      kept-long = ap length (f .3) ∙ (next-long table d y ∙ inv .run .long)
+  module _ {w : ℕ} {at′ : Status} {regs′ mem′ : List ℕ} (f : Steps d at regs mem table w at′ regs′ mem′) where
+    -- the turn in place is the turn of the whole record
+    whole : Steps d (statusOf (y .state)) regs mem table w at′ regs′ mem′
+    whole = subst (λ (a : Status). Steps d a regs mem table w at′ regs′ mem′) (sym (same-status r at regs (inv .sizes))) f
 
-      pub again : i < n → w ≡ 0 → Loop table d n at₀ regs₀ mem₀ at′ regs′ mem′ (i + 1)
-      again h z =
-          record {
-            run = subst (λ (u : Machine). Going table d n x u (i + 1)) stepped (went table d n x y i (inv .run) h (sym (f .0) ∙ z));
-            sixteen =
-                ap length (f .2)
-                ∙ (turned-regs d (planOf d (recordOf at regs) mem table) (stateOf (recordOf at regs) mem) ∙ inv .sixteen);
-          }
+    stepped : next table d y ≡ machineOf (updated r at′ regs′) mem′
+    stepped = sym (λ j. machineOf (updated r (whole .status j) (whole .registers j)) (whole .memory j))
 
-      pub stop : i < n → w ≢ 0 → Left i w (recordOf at′ regs′) mem′
-      stop h z =
-          let l = stopped table d n x y i (inv .run) h (λ q. z (f .0 ∙ q)) in
-          (l .0, f .0 ∙ l .1, sym stepped ∙ l .2)
+    pub kept-long : length mem′ ≡ length mem₀
+    kept-long = steps-long f ∙ inv .run .long
 
--- the contract's three parts, from a way out and the answer given there
-pub answered : (d : Direction) (n : ℕ) (at : Status) (r : Record) (mem table : List ℕ) (k w : ℕ) (r′ : Record) (mem′ : List ℕ) (b : Batch)
-    → at ≡ statusOf r → Left table d n at (r .regs) mem k w r′ mem′ → b ≡ record { turns = k; refusal = w; state = r′ }
-    → CountOf d n r mem table (b .turns) × (b ≡ batchOf d n (b .turns) r mem table) × (mem′ ≡ batchMemory d (b .turns) r mem table)
-answered d n at r mem table k w r′ mem′ b e h p =
-    let g = subst (λ (a : Status). Left table d n a (r .regs) mem k w r′ mem′) e h in
-    subst (λ (z : Batch). CountOf d n r mem table (z .turns) × (z ≡ batchOf d n (z .turns) r mem table) × (mem′ ≡ batchMemory d (z .turns) r mem table))
-    (sym p) (g .0, λ j. record { turns = k; refusal = g .1 j; state = g .2 j .state }, ap (λ (u : Machine). u .memory) (g .2))
+    pub again : i < n → w ≡ 0 → Loop table d n r mem₀ at′ regs′ mem′ (i + 1)
+    again h z =
+        let s = next-sizes table d y in
+        record {
+          run = subst (λ (u : Machine). Going table d n x u (i + 1)) stepped (went table d n x y i (inv .run) h (sym (whole .refusal) ∙ z));
+          sizes = subst (SameSizes (statusOf r)) (sym (whole .status)) (record { k = s .k; m = s .m; n = s .n });
+          sixteen = steps-regs f ∙ inv .sixteen;
+          bounds = inv .bounds;
+        }
+
+    pub stop : {b : Batch} → i < n → w ≢ 0 → b ≡ record { turns = i; refusal = w; state = updated r at′ regs′ } → BatchPromise d n r mem₀ table b mem′
+    stop {b} h z p =
+        let l = stopped table d n x y i (inv .run) h (λ q. z (whole .refusal ∙ q)) in
+        promised i w (updated r at′ regs′) mem′ b (l .0, whole .refusal ∙ l .1, sym stepped ∙ l .2) p
 
 -- a batch of one is a single turn
-single : (d : Direction) (r : Record) (mem table : List ℕ) (k : ℕ) → CountOf d 1 r mem table k
+single : (d : Direction) (r : Record) (mem table : List ℕ) (k : ℕ) → Count table d 1 (machineOf r mem) k
     → (batchOf d 1 k r mem table .refusal ≡ refusal table d (machineOf r mem)) × (after table d k (machineOf r mem) ≡ next table d (machineOf r mem))
 unfolding after
 single d r mem table zero c = (refl, sym (refused-keeps table d (machineOf r mem) (λ z. absurd (omega (arith, c .some (omega arith) z)))))
 single d r mem table (suc zero) c = (sym (c .accepted 0 (omega arith)), refl)
 single d r mem table (suc (suc k)) c = absurd (omega (arith, c .most))
 
-pub one : (d : Direction) (r : Record) (mem table : List ℕ) (b : Batch) (mem′ : List ℕ)
-    → CountOf d 1 r mem table (b .turns) × (b ≡ batchOf d 1 (b .turns) r mem table) × (mem′ ≡ batchMemory d (b .turns) r mem table)
-    → (record { refusal = b .refusal; state = b .state } ≡ turnOf d r mem table) × (mem′ ≡ memoryOf d r mem table)
+pub one : (d : Direction) (r : Record) (mem table : List ℕ) (b : Batch) (mem′ : List ℕ) → BatchPromise d 1 r mem table b mem′
+    → TurnPromise d r mem table (record { refusal = b .refusal; state = b .state }) mem′
 one d r mem table b mem′ h =
-    let s = single d r mem table (b .turns) (h .0) in
-    let w : b .refusal ≡ refusal table d (machineOf r mem) = ap (λ (x : Batch). x .refusal) (h .1) ∙ s .0 in
-    let e : b .state ≡ next table d (machineOf r mem) .state = ap (λ (x : Batch). x .state) (h .1) ∙ ap (λ (x : Machine). x .state) (s .1) in
-    (λ j. record { refusal = w j; state = e j }, h .2 ∙ ap (λ (x : Machine). x .memory) (s .1))
+    let s = single d r mem table (b .turns) (h .count) in
+    let w : b .refusal ≡ refusal table d (machineOf r mem) = ap (λ (x : Batch). x .refusal) (h .answer) ∙ s .0 in
+    let e : b .state ≡ next table d (machineOf r mem) .state = ap (λ (x : Batch). x .state) (h .answer) ∙ ap (λ (x : Machine). x .state) (s .1) in
+    record { answer = λ j. record { refusal = w j; state = e j }; memory = h .memory ∙ ap (λ (x : Machine). x .memory) (s .1); bounds = h .bounds }

@@ -5,7 +5,8 @@ use mathlib.Core.List.{List}
 use lib.Dec.{ltb}
 use Rattle.word.specs.Word.{pick}
 use Rattle.step.specs.declared.Direction.{Direction}
-use Rattle.machine.specs.Calls.{Machine, machineOf, refusal, next}
+use Rattle.step.specs.View.{Bounds}
+use Rattle.machine.specs.Calls.{Machine, machineOf, viewOf, refusal, next}
 use Rattle.machine.specs.declared.Record.{Record}
 use Rattle.machine.specs.declared.Batch.{Batch}
 
@@ -34,6 +35,10 @@ batchOf d n k r mem table =
 abbrev pub batchMemory : Direction → ℕ → Record → List ℕ → List ℕ → List ℕ
 batchMemory d k r mem table = after table d k (machineOf r mem) .memory
 
--- k as it may be for these arguments
-abbrev pub CountOf : Direction → ℕ → Record → List ℕ → List ℕ → ℕ → Type 0
-CountOf d n r mem table k = Count table d n (machineOf r mem) k
+-- What a batch of n from r, mem and table promises of its answer a, whose turns are k, and of the lent memory
+-- at exit; and the bounds of its arguments, as of a turn's.
+pub record BatchPromise (d : Direction) (n : ℕ) (r : Record) (mem table : List ℕ) (a : Batch) (mem′ : List ℕ) : Type 0 where
+  pub count : Count table d n (machineOf r mem) (a .turns)
+  pub answer : a ≡ batchOf d n (a .turns) r mem table
+  pub memory : mem′ ≡ batchMemory d (a .turns) r mem table
+  pub bounds : Bounds (viewOf r mem)

@@ -1,69 +1,30 @@
 -- A turn as a call makes it: on a record, with lent memory and a lent table, whose first M and 9 N words count.
-use Prim.Native.Nat.{ℕ, _*_}
+use Prim.Native.Nat.{ℕ}
 use mathlib.Core.Path.{_≡_}
+use mathlib.Core.Bool.{Bool}
 use mathlib.Core.List.{List, [], _∷_, _++_}
 use lib.ListN.{take, drop}
 use Rattle.step.specs.declared.Status.{Status}
 use Rattle.step.specs.declared.Direction.{Direction}
 use Rattle.step.specs.declared.Attempt.{Attempt}
-use Rattle.step.specs.State.{State, seen, nodes}
+use Rattle.step.specs.View.{View, Bounds, seen, nodes}
+use Rattle.step.specs.Sizes.{badSizes}
 use Rattle.step.specs.Step.{number}
-use Rattle.machine.specs.Turn.{planned, turned}
+use Rattle.machine.specs.Turn.{planAt, turnedAt}
 use Rattle.machine.specs.declared.Record.{Record}
 use Rattle.machine.specs.declared.Turned.{Turned}
 
--- ---- the record and the state
+-- ---- the record, and what a turn sees and leaves of it
 
 abbrev pub statusOf : Record → Status
 statusOf r = record { qifv = r .qifv; qifw = r .qifw; k = r .k; m = r .m; n = r .n }
 
-abbrev pub recordOf : Status → List ℕ → Record
-recordOf at regs = record { regs = regs; qifv = at .qifv; qifw = at .qifw; k = at .k; m = at .m; n = at .n }
+abbrev pub viewOf : Record → List ℕ → View
+viewOf r mem = seen (statusOf r) (r .regs) mem
 
-abbrev pub stateOf : Record → List ℕ → State
-stateOf r mem = seen (statusOf r) (r .regs) mem
-
--- ---- a turn of it
-
-abbrev pub planOf : Direction → Record → List ℕ → List ℕ → Attempt
-planOf d r mem table = planned (nodes (statusOf r) table) d (stateOf r mem)
-
-abbrev pub stateAfter : Direction → Record → List ℕ → List ℕ → State
-stateAfter d r mem table = turned d (planOf d r mem table) (stateOf r mem)
-
--- the answer
-abbrev pub turnOf : Direction → Record → List ℕ → List ℕ → Turned
-turnOf d r mem table =
-    record {
-      refusal = number (planOf d r mem table);
-      state = recordOf (stateAfter d r mem table .at) (stateAfter d r mem table .regs);
-    }
-
--- the lent memory at exit: its first M words as the turn leaves them, and the excess as it was
-abbrev pub memoryOf : Direction → Record → List ℕ → List ℕ → List ℕ
-memoryOf d r mem table = stateAfter d r mem table .memory ++ drop (r .m) mem
-
--- ---- a machine: a record and the whole lent memory, as the calls hand them on
-
-pub record Machine : Type 0 where
-  pub state : Record
-  pub memory : List ℕ
-
-abbrev pub machineOf : Record → List ℕ → Machine
-machineOf r mem = record { state = r; memory = mem }
-
-module _ (table : List ℕ) where
-  abbrev pub refusal : Direction → Machine → ℕ
-  refusal d x = turnOf d (x .state) (x .memory) table .refusal
-
-  abbrev pub next : Direction → Machine → Machine
-  next d x = record { state = turnOf d (x .state) (x .memory) table .state; memory = memoryOf d (x .state) (x .memory) table }
-
-  -- a single turn from x is accepted and leaves y
-  abbrev pub Leads : Direction → Machine → Machine → Type 0
-  Leads d x y = (refusal d x ≡ 0) × (next d x ≡ y)
-
--- ---- the record of zeros
+-- r with the registers, the node and the wait count that turns left
+abbrev pub updated : Record → Status → List ℕ → Record
+updated r at regs = record { regs = regs; qifv = at .qifv; qifw = at .qifw; k = r .k; m = r .m; n = r .n }
 
 abbrev pub zeros : Record
 zeros =
@@ -75,3 +36,57 @@ zeros =
       m = 0;
       n = 0;
     }
+
+-- refusal 10
+abbrev pub wrongSizes : Record → List ℕ → List ℕ → Bool
+wrongSizes r mem table = badSizes (statusOf r) (take (r .m) mem) (nodes (statusOf r) table)
+
+-- ---- a turn of it
+
+abbrev pub planOf : Direction → Record → List ℕ → List ℕ → Attempt
+planOf d r mem table = planAt d (statusOf r) (r .regs) mem table
+
+abbrev pub viewAfter : Direction → Record → List ℕ → List ℕ → View
+viewAfter d r mem table = turnedAt d (statusOf r) (r .regs) mem table
+
+-- the answer
+abbrev pub turnOf : Direction → Record → List ℕ → List ℕ → Turned
+turnOf d r mem table =
+    record {
+      refusal = number (planOf d r mem table);
+      state = updated r (viewAfter d r mem table .at) (viewAfter d r mem table .regs);
+    }
+
+-- the lent memory at exit: its first M words as the turn leaves them, and the excess as it was
+abbrev pub memoryOf : Direction → Record → List ℕ → List ℕ → List ℕ
+memoryOf d r mem table = viewAfter d r mem table .memory ++ drop (r .m) mem
+
+-- What a turn from r, mem and table promises of its answer a and of the lent memory at exit; and, of its
+-- arguments, the bounds that the claims on turns ask for.
+pub record TurnPromise (d : Direction) (r : Record) (mem table : List ℕ) (a : Turned) (mem′ : List ℕ) : Type 0 where
+  pub answer : a ≡ turnOf d r mem table
+  pub memory : mem′ ≡ memoryOf d r mem table
+  pub bounds : Bounds (viewOf r mem)
+
+-- ---- a machine: a record and the whole lent memory, as the calls hand them on
+
+pub record Machine : Type 0 where
+  pub state : Record
+  pub memory : List ℕ
+
+abbrev pub machineOf : Record → List ℕ → Machine
+machineOf r mem = record { state = r; memory = mem }
+
+abbrev pub Bounded : Machine → Type 0
+Bounded x = Bounds (viewOf (x .state) (x .memory))
+
+module _ (table : List ℕ) where
+  abbrev pub refusal : Direction → Machine → ℕ
+  refusal d x = turnOf d (x .state) (x .memory) table .refusal
+
+  abbrev pub next : Direction → Machine → Machine
+  next d x = record { state = turnOf d (x .state) (x .memory) table .state; memory = memoryOf d (x .state) (x .memory) table }
+
+  -- a single turn from x is accepted and leaves y
+  abbrev pub Leads : Direction → Machine → Machine → Type 0
+  Leads d x y = (refusal d x ≡ 0) × (next d x ≡ y)

@@ -1,4 +1,5 @@
 -- What is claimed of single turns, over the definitions that the contracts of forward and back cite. Proved in proofs/Claims.
+-- Where a claim asks for Bounded, the call's own promise gives it (TurnPromise, BatchPromise).
 use Prim.Native.Nat.{ℕ}
 use mathlib.Core.Path.{_≡_}
 use mathlib.Core.Logic.{_≢_}
@@ -6,12 +7,10 @@ use mathlib.Core.List.{List}
 use lib.ListN.{drop}
 use Rattle.step.specs.declared.Direction.{Direction}
 use Rattle.step.specs.declared.Direction.the-variants.{Forward, Back}
-use Rattle.step.specs.State.{Fits, flip}
-use Rattle.machine.specs.Calls.{Machine, stateOf, refusal, next, Leads}
-
--- the one assumption, which the types give: sixteen registers, and words of 32 bits
-abbrev pub Fitting : Machine → Type 0
-Fitting x = Fits (stateOf (x .state) (x .memory))
+use Rattle.step.specs.View.{flip}
+use Rattle.machine.specs.Calls.{Machine, machineOf, Bounded, TurnPromise, refusal, next, Leads}
+use Rattle.machine.specs.declared.Record.{Record}
+use Rattle.machine.specs.declared.Turned.{Turned}
 
 -- a refused turn changes nothing, and no turn touches the excess
 pub record Harmless : Type 0 where
@@ -20,13 +19,13 @@ pub record Harmless : Type 0 where
 
 -- Demand 2: the two turns undo each other
 pub record Inverse : Type 0 where
-  pub forward-back : (table : List ℕ) (x y : Machine) → Fitting x → Leads table Forward x y → Leads table Back y x
-  pub back-forward : (table : List ℕ) (x y : Machine) → Fitting x → Leads table Back x y → Leads table Forward y x
+  pub forward-back : (table : List ℕ) (x y : Machine) → Bounded x → Leads table Forward x y → Leads table Back y x
+  pub back-forward : (table : List ℕ) (x y : Machine) → Bounded x → Leads table Back x y → Leads table Forward y x
 
 -- a state from which a turn this way leads to y: forward, an earlier state
 pub record Origin (table : List ℕ) (d : Direction) (y : Machine) : Type 0 where
   pub machine : Machine
-  pub fits : Fitting machine
+  pub bounds : Bounded machine
   pub leads : Leads table d machine y
 
 -- So the earlier state is the only one, it is the one that a back turn yields, and back is accepted exactly where there is one;
@@ -34,4 +33,16 @@ pub record Origin (table : List ℕ) (d : Direction) (y : Machine) : Type 0 wher
 pub record OneOrigin : Type 0 where
   pub only : (table : List ℕ) (d : Direction) (y : Machine) (e e′ : Origin table d y) → e .machine ≡ e′ .machine
   pub yields : (table : List ℕ) (d : Direction) (y : Machine) (e : Origin table d y) → Leads table (flip d) y (e .machine)
-  pub exists : (table : List ℕ) (d : Direction) (y : Machine) → Fitting y → refusal table (flip d) y ≡ 0 → Origin table d y
+  pub exists : (table : List ℕ) (d : Direction) (y : Machine) → Bounded y → refusal table (flip d) y ≡ 0 → Origin table d y
+
+-- Demand 2 of calls, with nothing left to assume: an accepted turn is undone by the turn the other way on what it left; and
+-- a turn is accepted exactly where there is a state from which the other way leads here, which it then leaves.
+pub record OnCalls : Type 0 where
+  pub undone : (d : Direction) (r : Record) (mem table : List ℕ) (a b : Turned) (mem′ mem″ : List ℕ)
+      → TurnPromise d r mem table a mem′ → a .refusal ≡ 0 → TurnPromise (flip d) (a .state) mem′ table b mem″
+      → (b ≡ record { refusal = 0; state = r }) × (mem″ ≡ mem)
+  pub origin : (d : Direction) (r : Record) (mem table : List ℕ) (a : Turned) (mem′ : List ℕ)
+      → TurnPromise d r mem table a mem′ → a .refusal ≡ 0 → Origin table (flip d) (machineOf r mem)
+  pub accepted : (d : Direction) (r : Record) (mem table : List ℕ) (a : Turned) (mem′ : List ℕ)
+      → TurnPromise d r mem table a mem′ → (e : Origin table (flip d) (machineOf r mem))
+      → (a .refusal ≡ 0) × (machineOf (a .state) mem′ ≡ e .machine)

@@ -80,8 +80,9 @@ marks =
     ∷ row Forward (at 0 0 9 0 0 2 3 0 (0x01400001 ∷ 0 ∷ 6 ∷ [])) (15 ∷ 0 ∷ 0 ∷ 9 ∷ 0 ∷ 0 ∷ 0 ∷ 0x01400001 ∷ 0 ∷ 6 ∷ [])
     ∷ row Forward (at 0 0 9 0 0 2 3 0 (0x01400003 ∷ 0 ∷ 6 ∷ [])) (15 ∷ 0 ∷ 0 ∷ 9 ∷ 0 ∷ 0 ∷ 0 ∷ 0x01400003 ∷ 0 ∷ 6 ∷ [])
     ∷ row Forward (at 0 0 9 0 0 2 3 0 (0x01400002 ∷ 0 ∷ 6 ∷ [])) (0 ∷ 1 ∷ 0 ∷ 6 ∷ 0 ∷ 0 ∷ 0 ∷ 0x01400002 ∷ 0 ∷ 9 ∷ [])
-    -- (i) 7 divided by 0 gives 0: arib(r1,r2,r3,3)
-    ∷ row Forward (at 0 0 0 7 0 1 1 0 (0x23456300 ∷ [])) (0 ∷ 1 ∷ 0 ∷ 0 ∷ 7 ∷ 0 ∷ 0 ∷ 0x23456300 ∷ [])
+    -- (i) 7 divided by 0 gives 0, which leaves r1 as it is: arib(r1,r2,r3,3); by pc, 7, it gives 1: arib(r1,r2,pc,3)
+    ∷ row Forward (at 0 0 9 7 0 1 1 0 (0x23456300 ∷ [])) (0 ∷ 1 ∷ 0 ∷ 9 ∷ 7 ∷ 0 ∷ 0 ∷ 0x23456300 ∷ [])
+    ∷ row Forward (at 7 0 9 7 0 9 9 0 (atSeven 0x23450300)) (0 ∷ 8 ∷ 0 ∷ 8 ∷ 7 ∷ 0 ∷ 0 ∷ atSeven 0x23450300)
     -- (j) qif into w = 2 takes three turns
     ∷ waiting 0 (0 ∷ 0 ∷ 0 ∷ 1 ∷ 0 ∷ 2 ∷ 2 ∷ 0x18400000 ∷ [])
     ∷ waiting 1 (0 ∷ 0 ∷ 0 ∷ 1 ∷ 0 ∷ 2 ∷ 1 ∷ 0x18400000 ∷ [])

@@ -1,15 +1,11 @@
 // The cycle of one turn, in place: the registers stand in a lent array of the caller's, so that a run
 // of turns neither copies nor rebuilds the record. Each big function has one caller, and is inlined.
 ghost use mathlib.Core.Path.{_≡_};
-ghost use mathlib.Core.Bool.{not, _&&_};
-ghost use mathlib.Core.List.{_++_};
-ghost use lib.Dec.{eqb};
-ghost use lib.ListN.{take, drop, set};
-ghost use Rattle.step.specs.State.{State, seen, nodes, reg};
-ghost use Rattle.step.specs.Step.{marked, written, stored, performed, number};
+ghost use lib.ListN.{take};
+ghost use Rattle.step.specs.View.{seen, nodes};
 ghost use Rattle.step.specs.declared.Direction.{Direction};
-ghost use Rattle.machine.specs.Turn.{movedPc, fromPc, toPc, from, to, starts, finishes, badSizes, nextOf, landed, judged, executed, planned, turned};
-use crate::Record;
+ghost use Rattle.machine.specs.Turn.{movedPc, fromPc, toPc, starts, landed, judged, executed};
+ghost use Rattle.machine.specs.InPlace.{PcAfter, Plans, Performs, Steps};
 use step::Attempt;
 use step::Direction;
 use step::Effect;
@@ -22,6 +18,7 @@ use step::operation::refused_if;
 use step::perform::after;
 use step::perform::apply;
 use step::perform::status_after;
+use step::sizes::are_bad_sizes;
 
 // What a turn in place answers: the refusal and the new status.
 pub struct Stepped {
@@ -60,9 +57,9 @@ fn to_pc(d: Direction, wait: u32, pc: u32, br: u32) -> u32
     }
 }
 
-// pc after the attempt's effect and, forward, the move on.
+// pc after what the attempt does and, forward, the move on. It is computed once, for 18 and for the turn.
 fn next_pc(d: Direction, a: Attempt, at: Status, regs: &[u32], mem: &[u32]) -> u32
-    ensures { λ r. ⌜ r ≡ nextOf d a (seen at (now (regs .entry)) (now (mem .entry))) ⌝ }
+    ensures { λ r. ⌜ PcAfter d (seen at (now (regs .entry)) (now (mem .entry))) a r ⌝ }
 {
     match a {
         Attempt::Refused(_n) => 0,
@@ -77,18 +74,6 @@ fn next_pc(d: Direction, a: Attempt, at: Status, regs: &[u32], mem: &[u32]) -> u
 
 // ---- refusals
 
-pub fn are_bad_sizes(at: Status, mem: &[u32], table: &[u32]) -> bool
-    ensures { λ r. ⌜ r ≡ badSizes at (take (at .m) (now (mem .entry))) (nodes at (now (table .entry))) ⌝ }
-{
-    let words = at.m as usize <= mem.len();
-    let links = Record::NODE_WORDS * (at.n as usize) <= table.len();
-    let lent = word::both(at.n <= Record::MAX_NODES, word::both(words, links));
-    !word::both(
-        0 < at.k,
-        word::both(at.k <= at.m, word::both(at.m <= Record::MAX_WORDS, lent)),
-    )
-}
-
 // Address i is below K and holds start.
 fn is_start(at: Status, mem: &[u32], i: u32) -> bool
     ensures { λ r. ⌜ r ≡ starts at (take (at .m) (now (mem .entry))) i ⌝ }
@@ -97,7 +82,9 @@ fn is_start(at: Status, mem: &[u32], i: u32) -> bool
 }
 
 fn land(a: Attempt, new: u32, at: Status, regs: &[u32], mem: &[u32]) -> Attempt
-    ensures { λ r. ⌜ r ≡ landed (seen at (now (regs .entry)) (now (mem .entry))) new a ⌝ }
+    ensures { λ r.
+        ⌜ (PcAfter Direction.Forward (seen at (now (regs .entry)) (now (mem .entry))) a new
+        → r ≡ landed Direction.Forward (seen at (now (regs .entry)) (now (mem .entry))) a) ⌝ }
 {
     match a {
         Attempt::Refused(n) => Attempt::Refused(n),
@@ -120,7 +107,9 @@ fn judge(
     mem: &[u32],
     table: &[u32],
 ) -> Attempt
-    ensures { λ r. ⌜ r ≡ judged (nodes at (now (table .entry))) d old new (seen at (now (regs .entry)) (now (mem .entry))) a ⌝ }
+    ensures { λ r.
+        ⌜ (PcAfter d (seen at (now (regs .entry)) (now (mem .entry))) a new
+        → r ≡ judged (nodes at (now (table .entry))) d old (seen at (now (regs .entry)) (now (mem .entry))) (landed d (seen at (now (regs .entry)) (now (mem .entry))) a)) ⌝ }
 {
     let sizes = are_bad_sizes(at, mem, table);
     let pc = look(regs, 0);
@@ -157,10 +146,7 @@ struct Planned {
 
 // Leaves the registers as the operation finds them.
 fn plan(d: Direction, at: Status, regs: &mut [u32], mem: &[u32], table: &[u32]) -> Planned
-    ensures { λ r.
-        ⌜ (r .attempt ≡ planned (nodes at (now (table .entry))) d (seen at (now (regs .entry)) (now (mem .entry))))
-        × (r .next ≡ nextOf d (executed (nodes at (now (table .entry))) d (from d (seen at (now (regs .entry)) (now (mem .entry))))) (from d (seen at (now (regs .entry)) (now (mem .entry)))))
-        × (now (regs .exit) ≡ from d (seen at (now (regs .entry)) (now (mem .entry))) .regs) ⌝ }
+    ensures { λ r. ⌜ Plans d at (now (regs .entry)) (now (mem .entry)) (now (table .entry)) (r .attempt) (r .next) (now (regs .exit)) ⌝ }
 {
     let old = look(regs, 0);
     let pc = from_pc(d, at.qifw, old, look(regs, 1));
@@ -175,20 +161,14 @@ fn plan(d: Direction, at: Status, regs: &mut [u32], mem: &[u32], table: &[u32]) 
 
 // The memory is written here alone, when no refusal is left.
 fn perform(e: Effect, next: u32, m: u32, regs: &mut [u32], mem: &mut [u32])
-    ensures { λ _.
-        ⌜ (now (regs .exit) ≡ set (written e (now (regs .entry)) (take m (now (mem .entry)))) 0 next)
-        × (now (mem .exit) ≡ stored e (now (regs .entry)) (take m (now (mem .entry))) ++ drop m (now (mem .entry))) ⌝ }
+    ensures { λ _. ⌜ Performs e next m (now (regs .entry)) (now (mem .entry)) (now (regs .exit)) (now (mem .exit)) ⌝ }
 {
     apply(e, regs, mem, m);
     put(regs, 0, next);
 }
 
 pub fn turn(d: Direction, at: Status, regs: &mut [u32], mem: &mut [u32], table: &[u32]) -> Stepped
-    ensures { λ r.
-        ⌜ (r .refusal ≡ number (planned (nodes at (now (table .entry))) d (seen at (now (regs .entry)) (now (mem .entry)))))
-        × (r .at ≡ turned d (planned (nodes at (now (table .entry))) d (seen at (now (regs .entry)) (now (mem .entry)))) (seen at (now (regs .entry)) (now (mem .entry))) .at)
-        × (now (regs .exit) ≡ turned d (planned (nodes at (now (table .entry))) d (seen at (now (regs .entry)) (now (mem .entry)))) (seen at (now (regs .entry)) (now (mem .entry))) .regs)
-        × (now (mem .exit) ≡ turned d (planned (nodes at (now (table .entry))) d (seen at (now (regs .entry)) (now (mem .entry)))) (seen at (now (regs .entry)) (now (mem .entry))) .memory ++ drop (at .m) (now (mem .entry))) ⌝ }
+    ensures { λ r. ⌜ Steps d at (now (regs .entry)) (now (mem .entry)) (now (table .entry)) (r .refusal) (r .at) (now (regs .exit)) (now (mem .exit)) ⌝ }
 {
     let old = look(regs, 0);
     let p = plan(d, at, regs, mem, table);

@@ -1,12 +1,10 @@
 // The register record and its turns.
 ghost use mathlib.Core.Path.{_≡_};
 ghost use mathlib.Core.List.{_∷_, []};
-ghost use lib.ListN.{take};
-ghost use Rattle.step.specs.State.{nodes};
+ghost use Rattle.qins.specs.Decode.{isInstruction};
 ghost use Rattle.step.specs.declared.Direction.{Direction};
-ghost use Rattle.machine.specs.Turn.{badSizes};
-ghost use Rattle.machine.specs.Batch.{batchOf, batchMemory, CountOf};
-ghost use Rattle.machine.specs.Calls.{statusOf, recordOf, zeros, turnOf, memoryOf};
+ghost use Rattle.machine.specs.Calls.{statusOf, updated, zeros, wrongSizes, TurnPromise};
+ghost use Rattle.machine.specs.Batch.{BatchPromise};
 
 mod cycle;
 
@@ -41,12 +39,12 @@ pub struct Batch {
 }
 
 impl Record {
-    // The most that M and N may be.
-    pub const MAX_WORDS: u32 = 8192;
+    // The most that M and N may be, and the words of a node.
+    pub const MAX_WORDS: u32 = step::sizes::MAX_WORDS;
 
-    pub const MAX_NODES: u32 = 511;
-    // The words of a node.
-    pub const NODE_WORDS: usize = 9;
+    pub const MAX_NODES: u32 = step::sizes::MAX_NODES;
+
+    pub const NODE_WORDS: usize = step::table::NODE_WORDS;
 
     pub fn zero() -> Record
         ensures { λ r. ⌜ r ≡ zeros ⌝ }
@@ -61,8 +59,8 @@ impl Record {
         }
     }
 
-    // The record beside its registers.
-    fn status(self) -> Status
+    // What a turn sees of the record beside its registers.
+    pub fn status(self) -> Status
         ensures { λ r. ⌜ r ≡ statusOf self ⌝ }
     {
         Status {
@@ -74,18 +72,21 @@ impl Record {
         }
     }
 
-    // What a run answers, with the record put together again.
-    fn answer(turns: u32, refusal: u32, at: Status, regs: [u32; 16]) -> Batch
-        ensures { λ r. ⌜ r ≡ record { turns = turns; refusal = refusal; state = recordOf at regs } ⌝ }
+    // The record with what turns leave of its registers and status.
+    fn update(self, at: Status, regs: [u32; 16]) -> Record
+        ensures { λ r. ⌜ r ≡ updated self at regs ⌝ }
     {
-        let state = Record {
-            regs,
-            qifv: at.qifv,
-            qifw: at.qifw,
-            k: at.k,
-            m: at.m,
-            n: at.n,
-        };
+        let mut next = self;
+        next.regs = regs;
+        next.qifv = at.qifv;
+        next.qifw = at.qifw;
+        next
+    }
+
+    fn answer(self, turns: u32, refusal: u32, at: Status, regs: [u32; 16]) -> Batch
+        ensures { λ r. ⌜ r ≡ record { turns = turns; refusal = refusal; state = updated self at regs } ⌝ }
+    {
+        let state = self.update(at, regs);
         Batch {
             turns,
             refusal,
@@ -95,18 +96,15 @@ impl Record {
 
     // Refusal 10: sizes out of range, or lent memory or table too short.
     pub fn has_bad_sizes(self, mem: &[u32], table: &[u32]) -> bool
-        ensures { λ r. ⌜ r ≡ badSizes (statusOf self) (take (self .m) (now (mem .entry))) (nodes (statusOf self) (now (table .entry))) ⌝ }
+        ensures { λ r. ⌜ r ≡ wrongSizes self (now (mem .entry)) (now (table .entry)) ⌝ }
     {
-        cycle::are_bad_sizes(self.status(), mem, table)
+        step::sizes::are_bad_sizes(self.status(), mem, table)
     }
 
     // Turns until n are made or one is refused. The registers are taken out of the record once and put
     // back once, and the turn has this one caller, so that it is inlined into the loop.
     fn run(self, d: Direction, n: u32, mem: &mut [u32], table: &[u32]) -> Batch
-        ensures { λ r.
-            ⌜ CountOf d n self (now (mem .entry)) (now (table .entry)) (r .turns)
-            × (r ≡ batchOf d n (r .turns) self (now (mem .entry)) (now (table .entry)))
-            × (now (mem .exit) ≡ batchMemory d (r .turns) self (now (mem .entry)) (now (table .entry))) ⌝ }
+        ensures { λ r. ⌜ BatchPromise d n self (now (mem .entry)) (now (table .entry)) r (now (mem .exit)) ⌝ }
     {
         let mut regs = self.regs;
         let mut at = self.status();
@@ -116,19 +114,17 @@ impl Record {
             let refusal = t.refusal;
             let next = t.at;
             if refusal != 0 {
-                return Record::answer(i, refusal, next, regs);
+                return self.answer(i, refusal, next, regs);
             }
             at = next;
             i += 1;
         }
-        Record::answer(i, 0, at, regs)
+        self.answer(i, 0, at, regs)
     }
 
     // One turn: a run of one, so that the cycle keeps its one caller.
     fn turn(self, d: Direction, mem: &mut [u32], table: &[u32]) -> Turned
-        ensures { λ r.
-            ⌜ (r ≡ turnOf d self (now (mem .entry)) (now (table .entry)))
-            × (now (mem .exit) ≡ memoryOf d self (now (mem .entry)) (now (table .entry))) ⌝ }
+        ensures { λ r. ⌜ TurnPromise d self (now (mem .entry)) (now (table .entry)) r (now (mem .exit)) ⌝ }
     {
         let b = self.run(d, 1, mem, table);
         let state = b.state;
@@ -140,39 +136,43 @@ impl Record {
 
     // One turn forward.
     pub fn forward(self, mem: &mut [u32], table: &[u32]) -> Turned
-        ensures { λ r.
-            ⌜ (r ≡ turnOf Direction.Forward self (now (mem .entry)) (now (table .entry)))
-            × (now (mem .exit) ≡ memoryOf Direction.Forward self (now (mem .entry)) (now (table .entry))) ⌝ }
+        ensures { λ r. ⌜ TurnPromise Direction.Forward self (now (mem .entry)) (now (table .entry)) r (now (mem .exit)) ⌝ }
     {
         self.turn(Direction::Forward, mem, table)
     }
 
     // One turn back.
     pub fn back(self, mem: &mut [u32], table: &[u32]) -> Turned
-        ensures { λ r.
-            ⌜ (r ≡ turnOf Direction.Back self (now (mem .entry)) (now (table .entry)))
-            × (now (mem .exit) ≡ memoryOf Direction.Back self (now (mem .entry)) (now (table .entry))) ⌝ }
+        ensures { λ r. ⌜ TurnPromise Direction.Back self (now (mem .entry)) (now (table .entry)) r (now (mem .exit)) ⌝ }
     {
         self.turn(Direction::Back, mem, table)
     }
 
-    // Up to n turns forward. How many, k, is free within CountOf; all else follows from it.
+    // Up to n turns forward. How many, k, is free within Count; all else follows from it.
     pub fn forward_batch(self, n: u32, mem: &mut [u32], table: &[u32]) -> Batch
-        ensures { λ r.
-            ⌜ CountOf Direction.Forward n self (now (mem .entry)) (now (table .entry)) (r .turns)
-            × (r ≡ batchOf Direction.Forward n (r .turns) self (now (mem .entry)) (now (table .entry)))
-            × (now (mem .exit) ≡ batchMemory Direction.Forward (r .turns) self (now (mem .entry)) (now (table .entry))) ⌝ }
+        ensures { λ r. ⌜ BatchPromise Direction.Forward n self (now (mem .entry)) (now (table .entry)) r (now (mem .exit)) ⌝ }
     {
         self.run(Direction::Forward, n, mem, table)
     }
 
     // Up to n turns back.
     pub fn back_batch(self, n: u32, mem: &mut [u32], table: &[u32]) -> Batch
-        ensures { λ r.
-            ⌜ CountOf Direction.Back n self (now (mem .entry)) (now (table .entry)) (r .turns)
-            × (r ≡ batchOf Direction.Back n (r .turns) self (now (mem .entry)) (now (table .entry)))
-            × (now (mem .exit) ≡ batchMemory Direction.Back (r .turns) self (now (mem .entry)) (now (table .entry))) ⌝ }
+        ensures { λ r. ⌜ BatchPromise Direction.Back n self (now (mem .entry)) (now (table .entry)) r (now (mem .exit)) ⌝ }
     {
         self.run(Direction::Back, n, mem, table)
     }
+}
+
+// A turn on the word alone is refused by 13 exactly where the word is no instruction. It goes through
+// the turn since a second caller of attempt would keep that from being inlined into the run.
+pub fn is_instruction(w: u32) -> bool
+    ensures { λ r. ⌜ r ≡ isInstruction w ⌝ }
+{
+    let mut mem = [w];
+    let table = [0; 0];
+    let mut r = Record::zero();
+    r.k = 1;
+    r.m = 1;
+    let t = r.forward(&mut mem, &table);
+    t.refusal != 13
 }

@@ -2,16 +2,17 @@ use Prim.Native.Nat.{_-_}
 use mathlib.Core.Path.{sym}
 use native.Mathlib.Omega.{arith}
 use denote.Ref.{now}
+use Rattle.machine.proofs.Given.{given-bounds}
+use Rattle.machine.proofs.Runs.{Loop, loop-starts, done, kept-long, again, stop}
 use borrow.Author.Needs.{needs}
-use Rattle.machine.proofs.Runs.{Loop, going, done, kept-long, again, stop, answered}
 use Rattle.machine.proofs.Record.run.Statement.{statement}
 use Rattle.machine.proofs.Record.run.Tie as tie
 
 abbrev Inv-loop : tie.InvT-loop
-Inv-loop d n mem₀ table regs₀ at₀ i₀ mem regs at i = Loop table d n at₀ regs₀ mem₀ at regs mem i
+Inv-loop self d n mem₀ table regs₀ at₀ i₀ mem regs at i = Loop table d n self mem₀ at regs mem i
 
 abbrev μ-loop : tie.MeasureT-loop
-μ-loop d n mem₀ table regs₀ at₀ i₀ mem regs at i = n - i
+μ-loop self d n mem₀ table regs₀ at₀ i₀ mem regs at i = n - i
 
 pub run-spec : {M : Type 1} → statement M
 run-spec =
@@ -20,13 +21,24 @@ run-spec =
     Inv-loop
     μ-loop
     (λ c κs. search needs)
-    (λ c. record { run = going _ _ _ _; sixteen = search needs })
+    (λ c.
+    let s = c .before .before .before in
+    let g = s .before .args in
+    loop-starts (c .status .ensures) (given-bounds (g .self) (now (g .mem)) (search needs) (λ a. search needs) (s .slice-known .given)))
     (λ c. sym (c .before .before .loop .inv .sixteen))
     (λ c κs. search needs) (λ c κs. search needs)
-    (λ c. let g = c .before .before .before .before .before .before .before .before .before .before .before .before .before .before .before .args in let l = c .before .before .before .before .before .before .before .before .before .before .loop in let f = c .before .before .before .before .before .before .turn .ensures in kept-long (now (g .table)) (g .d) (g .n) (c .before .before .before .before .before .before .before .before .before .before .before .status .result) (g .self .regs) (now (g .mem)) (l .at) (l .regs) (l .mem) (l .i) (l .inv) _ _ _ _ f)
-    (λ c. let g = c .before .before .before .before .before .before .before .before .before .before .before .before .before .before .before .args in let l = c .before .before .before .before .before .before .before .before .before .before .loop in let f = c .before .before .before .before .before .before .turn .ensures in answered (g .d) (g .n) _ (g .self) (now (g .mem)) (now (g .table)) _ _ _ _ _ (c .before .before .before .before .before .before .before .before .before .before .before .status .ensures) (stop (now (g .table)) (g .d) (g .n) (c .before .before .before .before .before .before .before .before .before .before .before .status .result) (g .self .regs) (now (g .mem)) (l .at) (l .regs) (l .mem) (l .i) (l .inv) _ _ _ _ f (c .before .before .before .before .before .before .before .before .before .loop-test .taken) (c .before .if1 .taken)) (c .answer .ensures))
+    (λ c.
+    let t = c .before .before .before .before .before .before in
+    kept-long (t .before .before .before .before .loop .inv) (t .turn .ensures))
+    (λ c.
+    let t = c .before .before .before .before .before .before in
+    let l = t .before .before .before in
+    stop (l .before .loop .inv) (t .turn .ensures) (l .loop-test .taken) (c .before .if1 .taken) (c .answer .ensures))
     (λ c. omega arith) (λ c. omega arith)
-    (λ c. let g = c .before .before .before .before .before .before .before .before .before .before .before .before .before .before .args in let l = c .before .before .before .before .before .before .before .before .before .loop in let f = c .before .before .before .before .before .turn .ensures in again (now (g .table)) (g .d) (g .n) (c .before .before .before .before .before .before .before .before .before .before .status .result) (g .self .regs) (now (g .mem)) (l .at) (l .regs) (l .mem) (l .i) (l .inv) _ _ _ _ f (c .before .before .before .before .before .before .before .before .loop-test .taken) (c .if1 .left))
+    (λ c.
+    let t = c .before .before .before .before .before in
+    let l = t .before .before .before in
+    again (l .before .loop .inv) (t .turn .ensures) (l .loop-test .taken) (c .if1 .left))
     (λ c κs. search needs)
     (λ c. c .before .before .loop .inv .run .long)
-    (λ c. let g = c .before .before .before .before .before .before .before .args in let l = c .before .before .loop in answered (g .d) (g .n) _ (g .self) (now (g .mem)) (now (g .table)) _ _ _ _ _ (c .before .before .before .status .ensures) (done (now (g .table)) (g .d) (g .n) (c .before .before .before .status .result) (g .self .regs) (now (g .mem)) (l .at) (l .regs) (l .mem) (l .i) (l .inv) (c .before .loop-test .left)) (c .answer2 .ensures)))
+    (λ c. done (c .before .before .loop .inv) (c .before .loop-test .left) (c .answer2 .ensures)))

@@ -1,6 +1,6 @@
 use denote.Ref.{now}
-use borrow.Author.Needs.{needs}
 use Rattle.machine.proofs.Runs.{one}
+use borrow.Author.Needs.{needs}
 use Rattle.machine.proofs.Record.turn.Statement.{statement}
 use Rattle.machine.proofs.Record.turn.Tie as tie
 
@@ -9,4 +9,4 @@ turn-spec =
     tie.close
     (tie.spec
     (λ c κs. search needs) (λ c. search needs)
-    (λ c. let g = c .before .before .before .before .before .before .before .args in one (g .d) (g .self) (now (g .mem)) (now (g .table)) _ _ (c .before .before .before .run .ensures)))
+    (λ c. let r = c .before .before .before in let g = r .before .before .before .before .args in one (g .d) (g .self) (now (g .mem)) (now (g .table)) _ _ (r .run .ensures)))

@@ -11,6 +11,6 @@ perform-spec =
     tie.close
     (tie.spec
     (λ c κs. search needs) (λ c κs. search needs)
-    (λ c. ap length (c .before .before .put .ensures) ∙ simp length-set (ap length (c .before .before .before .before .before .before .before .before .apply .ensures .0) ∙ simp written-long))
-    (λ c. ap length (c .before .before .before .before .before .before .before .before .apply .ensures .1) ∙ simp lent-long)
-    (λ c. (simp (c .before .before .put .ensures, c .before .before .before .before .before .before .before .before .apply .ensures .0), c .before .before .before .before .before .before .before .before .apply .ensures .1)))
+    (λ c. let a = c .before .before .before .before .before .before .before .before in ap length (c .before .before .put .ensures) ∙ simp length-set (ap length (a .apply .ensures .0) ∙ simp written-long))
+    (λ c. let a = c .before .before .before .before .before .before .before .before in ap length (a .apply .ensures .1) ∙ simp lent-long)
+    (λ c. let a = c .before .before .before .before .before .before .before .before in record { registers = simp (c .before .before .put .ensures, a .apply .ensures .0); memory = a .apply .ensures .1 }))

@@ -1,5 +1,6 @@
 use mathlib.Core.Path.{ap, _∙_}
 use lib.ListN.{length, length-set}
+use Rattle.machine.proofs.InPlace.{plans}
 use borrow.Author.Needs.{needs}
 use Rattle.machine.proofs.cycle.plan.Statement.{statement}
 use Rattle.machine.proofs.cycle.plan.Tie as tie
@@ -11,8 +12,9 @@ plan-spec =
     (λ c κs. search needs) (λ c κs. search needs) (λ c κs. search needs) (λ c κs. search needs) (λ c κs. search needs)
     (λ c κs. search needs) (λ c κs. search needs)
     (λ c. ap length (c .before .before .before .before .before .before .before .before .put .ensures) ∙ simp length-set)
-    (λ c. (
-      c .judge .ensures ∙ rw (c .before .before .next-pc .ensures, c .before .before .before .before .execute .ensures, c .before .before .before .before .before .before .before .before .put .ensures, c .before .before .before .before .before .before .before .before .before .before .from-pc .ensures, c .before .before .before .before .before .before .before .before .before .before .before .look2 .ensures, c .before .before .before .before .before .before .before .before .before .before .before .before .before .look .ensures),
-      c .before .before .next-pc .ensures ∙ rw (c .before .before .before .before .execute .ensures, c .before .before .before .before .before .before .before .before .put .ensures, c .before .before .before .before .before .before .before .before .before .before .from-pc .ensures, c .before .before .before .before .before .before .before .before .before .before .before .look2 .ensures, c .before .before .before .before .before .before .before .before .before .before .before .before .before .look .ensures),
-      c .before .before .before .before .before .before .before .before .put .ensures ∙ rw (c .before .before .before .before .before .before .before .before .before .before .from-pc .ensures, c .before .before .before .before .before .before .before .before .before .before .before .look2 .ensures, c .before .before .before .before .before .before .before .before .before .before .before .before .before .look .ensures),
-    )))
+    (λ c.
+    let l = c .before .before in
+    let p = l .before .before .before .before .before .before in
+    let f = p .before .before in
+    plans (f .before .before .before .look .ensures) (f .before .look2 .ensures) (f .from-pc .ensures) (p .put .ensures)
+    (l .before .before .execute .ensures) (l .next-pc .ensures) (c .judge .ensures)))

@@ -1,0 +1,21 @@
+-- The bounds of what a call is passed, from what its types give. Assumes nothing.
+use Prim.Native.Nat.{ℕ, zero, suc, _^_, _<_}
+use mathlib.Core.Path.{_≡_}
+use mathlib.Core.List.{List, [], _∷_}
+use lib.ListN.{length, getD, take}
+use lib.Dec.{lit<}
+use mir.Syntax.{w32}
+use mir.Val.{Fits}
+use Rattle.step.specs.View.{Words, Bounds}
+use Rattle.machine.specs.Calls.{viewOf}
+use Rattle.machine.specs.declared.Record.{Record}
+
+pub words-take : (m : ℕ) (l : List ℕ) → Words l → Words (take m l)
+words-take zero l h a = lit< tt
+words-take (suc m) [] h a = lit< tt
+words-take (suc m) (x ∷ l) h zero = h 0
+words-take (suc m) (x ∷ l) h (suc a) = words-take m l (λ b. h (suc b)) a
+
+pub given-bounds : (r : Record) (mem : List ℕ) → length (r .regs) ≡ 16 → ((a : ℕ) → Fits w32 (getD (r .regs) a 0)) → ((a : ℕ) → Fits w32 (getD mem a 0))
+    → Bounds (viewOf r mem)
+given-bounds r mem n f g = record { sixteen = n; regs = λ a. f a .fits; words = words-take (r .m) mem (λ a. g a .fits) }
