@@ -1,5 +1,5 @@
 -- What each return of load, preface, save and check answers by the definitions. Assumes nothing.
-use mathlib.Core.Path.{_≡_, _∙_}
+use mathlib.Core.Path.{_≡_, sym, _∙_}
 use mathlib.Core.Bool.{true, false}
 use mathlib.Core.List.{List, [], _++_}
 use Prim.Native.Nat.{ℕ, _-_, _*_, _<_, _≤_}
@@ -7,63 +7,59 @@ use lib.ListN.{length, take, drop}
 use lib.Seq.{length-take-le}
 use borrow.Rule.Slice.PartMut.{midOf}
 use borrow.Author.Tests.{lt-ltb, le-ltb, le-leb, lt-leb, ne-eqb}
+use Rattle.step.specs.Table.{tableWords}
 use Rattle.machine.specs.declared.Record.{Record}
-use Rattle.machine.specs.Calls.{zeros}
-use Rattle.image.specs.declared.Loaded.{Loaded}
-use Rattle.image.specs.Format.{stateIn, wordsOf, imageBytes}
-use Rattle.image.specs.Load.{backOf, fileRefusal, loadRefusal, filled, loadOf, memAfterLoad, tableAfterLoad, prefaceOf}
-use Rattle.image.specs.Save.{wrongSizes, saveOf, outAfterSave}
+use Rattle.machine.specs.Calls.{zeros, wrongSizes}
+use Rattle.image.specs.declared.kinds.Kind.{Kind}
+use Rattle.image.specs.Format.{wordsOf, newest, backOf, image, kindOf, stateIn, backIn}
+use Rattle.image.specs.Load.{fileRefusal, loadRefusal, startIn, filled, LoadPromise, prefaceOf}
+use Rattle.image.specs.Save.{SaveDecided, SavePromise}
 use Rattle.image.proofs.Parts.{all-left}
 use Rattle.image.specs.Check.{badAddress, badNode, checkedAs, checkOf}
 
 -- ---- load and preface
 
--- what load answers and leaves, with the file and what it found
-abbrev pub Loads : List ℕ → List ℕ → List ℕ → Loaded → List ℕ → List ℕ → Type 0
-Loads s mem table l mem′ table′ =
-    (l ≡ loadOf s mem table) × (mem′ ≡ memAfterLoad s mem table) × (table′ ≡ tableAfterLoad s mem table)
+pub back-found : (s : List ℕ) {b : ℕ} {kind : Kind} {r : Record} → b ≡ backOf kind r → kind ≡ kindOf s → r ≡ stateIn s → b ≡ backIn s
+back-found s e f g = e ∙ rw (f, g)
 
 module _ (s mem table : List ℕ) where
-  pub load-refuses : (n : ℕ) (z : Record) → n ≡ loadRefusal s mem table → (n ≡ 0 → ⊥) → z ≡ zeros
-      → Loads s mem table (record { refusal = n; state = z }) mem table
-  load-refuses n z e h k = (rw (← e, ne-eqb n 0 h, k), rw (← e, ne-eqb n 0 h), rw (← e, ne-eqb n 0 h))
+  pub load-refuses : {n : ℕ} {z : Record} → n ≡ loadRefusal s mem table → (n ≡ 0 → ⊥) → z ≡ zeros
+      → LoadPromise s mem table (record { refusal = n; state = z }) mem table
+  load-refuses {n} e h k =
+      let f = ne-eqb n 0 h in
+      record { answer = rw (← e, f, k); memory = rw (← e, f); links = rw (← e, f) }
 
-  -- r and b are the record and back as load read them
-  pub load-accepts : (r : Record) (b n : ℕ) (mem′ table′ : List ℕ) → n ≡ 0 → loadRefusal s mem table ≡ 0 → r ≡ stateIn s → b ≡ backOf r
-      → mem′ ≡ filled (r .m) (midOf (length s - b) (length s - (length s - b)) s) mem
-      → table′ ≡ filled (9 * r .n) (drop (4 * r .m) (midOf (length s - b) (length s - (length s - b)) s)) table
-      → Loads s mem table (record { refusal = n; state = r }) mem′ table′
-  load-accepts r b n mem′ table′ k h e a f g =
-      let i = all-left (length s - b) s in
-      (rw (h, k, e), f ∙ (rw (h, i, a, ← e)), g ∙ (rw (h, i, a, ← e)))
+  -- r, a and w are the record, the first memory byte's place and the table's words as load found them
+  pub load-accepts : {r : Record} {n a w : ℕ} {mem′ table′ : List ℕ} → n ≡ loadRefusal s mem table → n ≡ 0 → r ≡ stateIn s → a ≡ startIn s → w ≡ tableWords (r .n)
+      → mem′ ≡ filled (r .m) (midOf a (length s - a) s) mem
+      → table′ ≡ filled w (drop (4 * r .m) (midOf a (length s - a) s)) table
+      → LoadPromise s mem table (record { refusal = n; state = r }) mem′ table′
+  load-accepts {a = a} l z e k w f g =
+      let h = sym l ∙ z in
+      let i = all-left a s in
+      record { answer = rw (h, z, e); memory = f ∙ (rw (h, i, k, e)); links = g ∙ (rw (h, i, w, k, e)) }
 
 -- the first n words filled from bytes that are those of another list
 pub refilled : (n : ℕ) (bytes bytes′ words part : List ℕ) → n ≤ length words → bytes ≡ bytes′
     → part ≡ wordsOf (length (take n words)) bytes → part ++ drop n words ≡ filled n bytes′ words
 refilled n bytes bytes′ words part h e f = rw (f, length-take-le n words h, e)
 
-pub preface-refuses : (s : List ℕ) (n : ℕ) → n ≡ fileRefusal s 0 → (n ≡ 0 → ⊥) → [] ≡ prefaceOf s
-preface-refuses s n e h = rw (← e, ne-eqb n 0 h)
+pub preface-refuses : (s : List ℕ) {n : ℕ} → n ≡ fileRefusal s 0 → (n ≡ 0 → ⊥) → [] ≡ prefaceOf s
+preface-refuses s {n} e h = rw (← e, ne-eqb n 0 h)
 
-pub preface-accepts : (s : List ℕ) (b : ℕ) → fileRefusal s 0 ≡ 0 → b ≡ backOf (stateIn s) → take (length s - b) s ≡ prefaceOf s
-preface-accepts s b h e = rw (h, e)
+pub preface-accepts : (s : List ℕ) {n a : ℕ} → n ≡ fileRefusal s 0 → n ≡ 0 → a ≡ startIn s → take a s ≡ prefaceOf s
+preface-accepts s f z e = rw (sym f ∙ z, e)
 
 -- ---- save
 
-module _ (r : Record) (mem table out : List ℕ) where
-  -- what save answers and leaves
-  abbrev pub Saves : ℕ → List ℕ → Type 0
-  Saves n out′ = (n ≡ saveOf r mem table out) × (out′ ≡ outAfterSave r mem table out)
+module _ {r : Record} {mem table out : List ℕ} {n : ℕ} (d : SaveDecided r mem table out n) where
+  pub save-refuses : (n ≡ 0 → ⊥) → SavePromise r mem table out n out
+  save-refuses h = record { decided = d; output = rw (← d .answer, ne-eqb n 0 h) }
 
-  pub save-sizes : wrongSizes r mem table ≡ true → Saves 10 out
-  save-sizes w = (rw w, rw w)
-
-  module _ (w : wrongSizes r mem table ≡ false) where
-    pub save-short : length out < backOf r → Saves 9 out
-    save-short h = (rw (w, lt-ltb (length out) (backOf r) h), rw (w, lt-ltb (length out) (backOf r) h))
-
-    pub save-writes : (out′ : List ℕ) → backOf r ≤ length out → out′ ≡ imageBytes r mem table ++ drop (backOf r) out → Saves 0 out′
-    save-writes out′ h e = (rw (w, le-ltb (length out) (backOf r) h), rw (w, le-ltb (length out) (backOf r) h) e)
+  -- w being the table's words as save found them
+  pub save-writes : {w : ℕ} {out′ : List ℕ} → n ≡ 0 → w ≡ tableWords (r .n)
+      → out′ ≡ image newest r (take (r .m) mem) (take w table) ++ drop (backOf newest r) out → SavePromise r mem table out n out′
+  save-writes z w f = record { decided = d; output = f ∙ rw (sym (d .answer) ∙ z, w) }
 
 -- ---- check
 

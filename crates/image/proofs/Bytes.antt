@@ -1,13 +1,13 @@
 -- Words as bytes: lengths, one word more, and reading what was written. Assumes nothing.
 use mathlib.Core.Path.{_≡_, refl, sym, ap, _∙_}
 use mathlib.Core.List.{List, [], _∷_, _++_, append-assoc, append-nil}
-use Prim.Native.Nat.{ℕ, zero, suc, _+_, _-_, _*_, _/_, _%_, _^_, _<_, _≤_}
+use Prim.Native.Nat.{ℕ, zero, suc, _+_, _*_, _/_, _%_, _^_, _<_, _≤_}
 use native.Mathlib.Omega.{arith}
 use native.Mathlib.Nat.{add-zero, div-div-eq-div-mul, mod-eq-of-lt}
 use native.Mathlib.Numerals.{add-one}
-use lib.ListN.{length, getD, set, take, drop, length-append}
+use lib.ListN.{length, getD, set, take, drop, length-append, drop-of-length-le, List·getD-append}
 use lib.Seq.{sets-eq, set-at, drop-cons, drop-at, drop-drop, drop-length, take-at, take-length, take-suc, length-take-le, getD-drop}
-use Rattle.step.specs.State.{Words}
+use Rattle.step.specs.View.{Words}
 use Rattle.image.specs.Format.{wordBytes, bytesOf, wordAt, wordsOf}
 
 -- ---- lengths
@@ -87,16 +87,25 @@ whole w h =
     let top : w / 16777216 < 256 = omega arith in
     rw (mod-eq-of-lt top) (omega arith)
 
-pub read-back : (ws s : List ℕ) (i : ℕ) → i < length ws → Words ws → wordAt (bytesOf ws ++ s) i ≡ getD ws i 0
+-- word i of written words is their element i, 0 past their end
+pub read-back : (ws : List ℕ) (i : ℕ) → Words ws → wordAt (bytesOf ws) i ≡ getD ws i 0
 unfolding bytesOf wordAt
-read-back [] s i h k = absurd (omega (arith, h))
-read-back (w ∷ ws) s zero h k = whole w (k 0)
-read-back (w ∷ ws) s (suc i) h k =
+read-back [] i k = rw (drop-of-length-le {A = ℕ} [] {i = 4 * i} (omega arith))
+read-back (w ∷ ws) zero k = whole w (k 0)
+read-back (w ∷ ws) (suc i) k =
     let e : 4 * suc i ≡ suc (suc (suc (suc (4 * i)))) = omega arith in
-    rw e (read-back ws s i (omega arith) (λ a. k (suc a)))
+    rw e (read-back ws i (λ a. k (suc a)))
+
+-- a word within the bytes a is the same with more behind them
+word-within : (a s : List ℕ) (i : ℕ) → 4 * i + 4 ≤ length a → wordAt (a ++ s) i ≡ wordAt a i
+word-within a s i h =
+    let at : (j : ℕ) → j < 4 → getD (a ++ s) (4 * i + j) 0 ≡ getD a (4 * i + j) 0 = λ j g. List·getD-append a s 0 (4 * i + j) (omega arith) in
+    word-bytes (a ++ s) i
+    ∙ rw (List·getD-append a s 0 (4 * i) (omega arith), at 1 (omega arith), at 2 (omega arith), at 3 (omega arith))
+    (sym (word-bytes a i))
 
 pub words-back : (ws s : List ℕ) (n : ℕ) → n ≤ length ws → Words ws → wordsOf n (bytesOf ws ++ s) ≡ take n ws
 unfolding wordsOf
 words-back ws s zero h k = refl
 words-back ws s (suc n) h k =
-    rw (words-back ws s n (omega arith) k, read-back ws s n h k, take-suc ws n 0 h)
+    rw (words-back ws s n (omega arith) k, word-within (bytesOf ws) s n (rw (length-bytes ws) (omega arith)) ∙ read-back ws n k, take-suc ws n 0 h)

@@ -1,5 +1,7 @@
+pub mod Given
 pub mod Bytes
 pub mod Parts
+pub mod KindSearch
 pub mod Written
 pub mod Search
 pub mod Accepted

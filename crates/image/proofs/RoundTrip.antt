@@ -1,183 +1,203 @@
 -- Load reads back what save writes, behind any preface. Assumes nothing.
-use mathlib.Core.Path.{_≡_, refl, sym, ap, subst, _∙_}
-use mathlib.Core.Bool.{true}
-use mathlib.Core.List.{List, [], _∷_, _++_, append-assoc}
-use Prim.Native.Nat.{ℕ, zero, suc, _+_, _-_, _*_, _^_, _<_, _≤_}
+use mathlib.Core.Path.{_≡_, refl, sym, ap, _∙_}
+use mathlib.Core.Bool.{true, not}
+use mathlib.Core.List.{List, _∷_, _++_, append-assoc}
+use Prim.Native.Nat.{ℕ, zero, suc, _+_, _-_, _*_, _≤_}
 use native.Mathlib.Omega.{arith}
 use lib.ListN.{length, getD, take, drop, length-append}
-use lib.Seq.{take-at, drop-at, take-take, length-take-le, getD-at, getD-append-add}
-use borrow.Author.Tests.{lt-ltb, le-ltb, le-leb, eq-eqb}
+use lib.Seq.{take-at, take-all, drop-at, length-take-le, getD-append-add}
+use borrow.Author.Tests.{le-ltb, le-leb, eq-eqb}
 use Rattle.word.specs.Word.{pick}
-use Rattle.step.specs.State.{Words}
+use Rattle.step.specs.View.{Words}
+use Rattle.step.specs.Table.{tableWords}
+use Rattle.step.specs.Sizes.{isEnough}
 use Rattle.machine.specs.declared.Record.{Record}
-use Rattle.image.specs.Format.{bytesOf, wordAt, wordsOf, magic, back, trailerWords, trailerBytes, backIn, recordIn, memoryBytes, tableBytes, imageBytes, lastBytes, trailerOf, stateIn, hasMagic}
-use Rattle.image.specs.Load.{inRange, backOf, fileRefusal, tooShort, loadRefusal, loadOf, memAfterLoad, tableAfterLoad, prefaceOf}
-use Rattle.image.specs.Save.{outAfterSave}
-use Rattle.image.specs.Claims.{Savable, LoadsAs, ImageLength, ImageLoads, PrefaceFound, SavedLoads}
-use Rattle.image.proofs.Bytes.{length-bytes, read-back, words-back}
+use Rattle.machine.specs.Calls.{statusOf}
+use Rattle.image.specs.declared.kinds.Kind.{Kind}
+use Rattle.image.specs.declared.Loaded.{Loaded}
+use Rattle.image.specs.Format.{bytesOf, wordAt, wordsOf, kinds, newest, same, kindBy, backAt, mAt, kAt, nAt, regsAt, qifvAt, qifwAt, wordCount, trailerLength, backOf, further, tailWords, trailerWords, trailerBytes, recordIn, imageBytes, lastBytes, kindOf, trailerIn, stateIn}
+use Rattle.image.specs.Load.{maxFile, fileRefusal, loadRefusal, LoadPromise, prefaceOf}
+use Rattle.image.specs.Claims.{FirstBack, Row, KindsFound, Restored, ReadsAs, Savable, ImageLength, ImageLoads, SaveAccepts, SavedLoads}
+use Rattle.image.proofs.Bytes.{length-bytes, bytes-append, read-back, words-back}
+use Rattle.machine.proofs.Given.{words-take}
+use Rattle.image.proofs.Given.{words-cons, words-append}
 use Rattle.image.proofs.Parts.{same-refl}
-use Rattle.image.proofs.Accepted.{Sized, sized}
-use Rattle.image.proofs.Answers.{save-writes}
+use Rattle.image.proofs.Accepted.{Sized, sized, save-accepted}
 
--- ---- lists of words
+-- ---- lists
 
-words-cons : (x : ℕ) (l : List ℕ) → x < 2 ^ 32 → Words l → Words (x ∷ l)
-words-cons x l h k zero = h
-words-cons x l h k (suc a) = k a
-
-words-append : (l m : List ℕ) → Words l → Words m → Words (l ++ m)
-words-append [] m h k = k
-words-append (x ∷ l) m h k = words-cons x (l ++ m) (h 0) (words-append l m (λ a. h (suc a)) k)
-
-words-take : (n : ℕ) (l : List ℕ) → Words l → Words (take n l)
-words-take zero l h a = omega arith
-words-take (suc n) [] h a = omega arith
-words-take (suc n) (x ∷ l) h a = words-cons x (take n l) (h 0) (words-take n l (λ b. h (suc b))) a
-
-first-back : (n : ℕ) (l s : List ℕ) → n ≤ length l → Words l → wordsOf n (bytesOf (take n l) ++ s) ≡ take n l
-first-back n l s h k =
-    words-back (take n l) s n (rw (length-take-le n l h) (omega arith)) (words-take n l k) ∙ take-take n n l (omega arith)
+-- n words written read back, whatever follows them
+all-back : (ws s : List ℕ) {n : ℕ} → length ws ≡ n → Words ws → wordsOf n (bytesOf ws ++ s) ≡ ws
+all-back ws s {n} h k = words-back ws s n (omega arith) k ∙ take-all n ws (omega arith)
 
 last-behind : (p q : List ℕ) (n : ℕ) → length q ≡ n → lastBytes n (p ++ q) ≡ q
 last-behind p q n h = drop-at p q (length (p ++ q) - n) (simp length-append (omega arith))
 
--- refusals 1 to 5 do not apply
-passes : (s : List ℕ) (rest : ℕ) → 92 ≤ length s → length s ≤ 65536 → hasMagic s ≡ true → inRange (stateIn s) ≡ true
-    → backIn (trailerOf s) ≡ backOf (stateIn s) → backOf (stateIn s) ≤ length s → fileRefusal s rest ≡ rest
-unfolding fileRefusal
-passes s rest a b c d e f =
-    rw (le-leb 92 (length s) a, le-leb (length s) 65536 b, c, d, eq-eqb (backIn (trailerOf s)) (backOf (stateIn s)) e, le-ltb (length s) (backOf (stateIn s)) f)
+-- ---- an image of any kind
 
--- ---- the trailer
-
-module _ (r : Record) (mem table : List ℕ) (v : Savable r mem table) where
+module _ (kind : Kind) (r : Record) (mem table : List ℕ) (row : Row kind) (v : Savable r mem table) where
   abbrev sizes : Sized r mem table
   sizes = sized r mem table (v .sizes)
 
-  trailer-fits : Words (trailerWords r)
-  trailer-fits =
-      let z = sizes in
-      let tail = r .qifv ∷ r .qifw ∷ [] in
-      let a = words-append (r .regs) tail (v .regs) (words-cons (r .qifv) (r .qifw ∷ []) (v .node) (words-cons (r .qifw) [] (v .wait) (λ a. omega arith))) in
-      let b = words-cons (r .n) (r .regs ++ tail) (omega (arith, z .nodes)) a in
-      let c = words-cons (r .k) (r .n ∷ r .regs ++ tail) (omega (arith, z .code, z .words)) b in
-      let d = words-cons (r .m) (r .k ∷ r .n ∷ r .regs ++ tail) (omega (arith, z .words)) c in
-      words-cons (backOf r) (r .m ∷ r .k ∷ r .n ∷ r .regs ++ tail) (omega (arith, z .words, z .nodes)) d
+  abbrev words : List ℕ
+  words = take (r .m) mem
 
-  trailer-long : length (trailerBytes r) ≡ 92
+  abbrev links : List ℕ
+  links = take (tableWords (r .n)) table
+
+  abbrev tail : List ℕ
+  tail = tailWords kind r
+
+  words-long : length (trailerWords kind r) ≡ wordCount kind
+  words-long =
+      let e = length-take-le (kind .more) (further r) (row .within) in
+      simp (length-append, v .bounds .view .sixteen, e) (omega arith)
+
+  words-bytes-long : length (bytesOf (trailerWords kind r)) ≡ 4 * wordCount kind
+  words-bytes-long = length-bytes (trailerWords kind r) ∙ ap (λ (n : ℕ). 4 * n) words-long
+
+  trailer-long : length (trailerBytes kind r) ≡ trailerLength kind
   unfolding trailerBytes
-  trailer-long = simp (length-append, length-bytes, v .sixteen)
+  trailer-long = length-append (bytesOf (trailerWords kind r)) (kind .last) ∙ rw (words-bytes-long, row .four)
 
-  word-back : (i : ℕ) → i < 22 → wordAt (trailerBytes r) i ≡ getD (trailerWords r) i 0
-  unfolding trailerBytes
-  word-back i h = read-back (trailerWords r) magic i (simp (length-append, v .sixteen) h) trailer-fits
-
-  regs-back : wordsOf 16 (drop 16 (trailerBytes r)) ≡ r .regs
-  unfolding trailerBytes bytesOf
-  regs-back =
-      words-back (r .regs ++ (r .qifv ∷ r .qifw ∷ [])) magic 16 (simp (length-append, v .sixteen) (omega arith)) (λ a. trailer-fits (suc (suc (suc (suc a)))))
-      ∙ take-at (r .regs) (r .qifv ∷ r .qifw ∷ []) 16 (v .sixteen)
-
-  record-back : recordIn (trailerBytes r) ≡ r
-  unfolding recordIn
-  record-back =
-      let tail = r .qifv ∷ r .qifw ∷ [] in
-      let a : wordAt (trailerBytes r) 20 ≡ r .qifv = word-back 20 (omega arith) ∙ getD-at (r .regs) (r .qifv) (r .qifw ∷ []) 0 16 (v .sixteen) in
-      let b : wordAt (trailerBytes r) 21 ≡ r .qifw =
-      word-back 21 (omega arith) ∙ ap (λ (n : ℕ). getD (r .regs ++ tail) (n + 1) 0) (sym (v .sixteen)) ∙ getD-append-add (r .regs) tail 1 0 in
-      rw (regs-back, a, b, word-back 1 (omega arith), word-back 2 (omega arith), word-back 3 (omega arith))
-
-  -- ---- the image behind a preface
-
-  pub image-length : length (imageBytes r mem table) ≡ backOf r
+  pub image-length : length (imageBytes kind r mem table) ≡ backOf kind r
   image-length =
       let z = sizes in
-      simp (length-append, length-bytes, trailer-long, length-take-le (r .m) mem (z .memory), length-take-le (9 * r .n) table (z .links)) (omega arith)
+      simp (length-append, length-bytes, trailer-long, length-take-le (r .m) mem (z .memory), length-take-le (tableWords (r .n)) table (z .links)) (omega arith)
 
-  module _ (p : List ℕ) where
+  -- ---- behind a preface
+
+  module _ (p : List ℕ) (h : length p + backOf kind r ≤ maxFile) where
+    -- the trailer's words read back
+
+    words-fit : Words (trailerWords kind r)
+    words-fit =
+        let z = sizes in
+        let more = words-take (kind .more) (further r) (λ a. v .bounds .tail (suc (suc a))) in
+        let e = words-cons (r .qifv) (r .qifw ∷ take (kind .more) (further r)) (v .bounds .tail 0) (words-cons (r .qifw) (take (kind .more) (further r)) (v .bounds .tail 1) more) in
+        let a = words-append (r .regs) tail (v .bounds .view .regs) e in
+        let b = words-cons (r .n) (r .regs ++ tail) (omega (arith, z .nodes)) a in
+        let c = words-cons (r .k) (r .n ∷ r .regs ++ tail) (omega (arith, z .code, z .words)) b in
+        let d = words-cons (r .m) (r .k ∷ r .n ∷ r .regs ++ tail) (omega (arith, z .words)) c in
+        words-cons (backOf kind r) (r .m ∷ r .k ∷ r .n ∷ r .regs ++ tail) (omega arith) d
+
+    abbrev t : List ℕ
+    t = bytesOf (trailerWords kind r)
+
+    word-back : (i : ℕ) → wordAt t i ≡ getD (trailerWords kind r) i 0
+    word-back i = read-back (trailerWords kind r) i words-fit
+
+    regs-back : wordsOf 16 (drop (4 * regsAt) t) ≡ r .regs
+    unfolding bytesOf
+    regs-back =
+        rw (bytes-append (r .regs) tail) (all-back (r .regs) (bytesOf tail) (v .bounds .view .sixteen) (v .bounds .view .regs))
+
+    -- word j behind the registers
+    tail-back : (j : ℕ) → getD (r .regs ++ tail) (16 + j) 0 ≡ getD tail j 0
+    tail-back j = ap (λ (n : ℕ). getD (r .regs ++ tail) (n + j) 0) (sym (v .bounds .view .sixteen)) ∙ getD-append-add (r .regs) tail j 0
+
+    record-back : recordIn t ≡ r
+    unfolding recordIn
+    record-back = rw (regs-back, word-back qifvAt ∙ tail-back 0, word-back qifwAt ∙ tail-back 1, word-back mAt, word-back kAt, word-back nAt)
+
+    -- what load finds
+
     abbrev file : List ℕ
-    file = p ++ imageBytes r mem table
+    file = p ++ imageBytes kind r mem table
 
     abbrev front : List ℕ
-    front = p ++ (memoryBytes r mem ++ tableBytes r table)
+    front = p ++ (bytesOf words ++ bytesOf links)
 
-    file-long : length file ≡ length p + backOf r
-    file-long = length-append p (imageBytes r mem table) ∙ (rw image-length)
+    file-long : length file ≡ length p + backOf kind r
+    file-long = length-append p (imageBytes kind r mem table) ∙ (rw image-length)
 
-    trailer-last : file ≡ front ++ trailerBytes r
+    trailer-last : file ≡ front ++ trailerBytes kind r
     trailer-last = simp append-assoc
 
-    trailer-found : trailerOf file ≡ trailerBytes r
-    trailer-found = ap (lastBytes 92) trailer-last ∙ last-behind front (trailerBytes r) 92 trailer-long
-
-    magic-found : hasMagic file ≡ true
+    bytes-last : lastBytes 4 file ≡ kind .last
     unfolding trailerBytes
-    magic-found =
-        let e : file ≡ (front ++ bytesOf (trailerWords r)) ++ magic = trailer-last ∙ sym (append-assoc front (bytesOf (trailerWords r)) magic) in
-        rw (e, last-behind (front ++ bytesOf (trailerWords r)) magic 4 refl) (same-refl magic)
+    bytes-last =
+        let e : file ≡ (front ++ t) ++ kind .last = trailer-last ∙ sym (append-assoc front t (kind .last)) in
+        ap (lastBytes 4) e ∙ last-behind (front ++ t) (kind .last) 4 (row .four)
+
+    kind-found : kindOf file ≡ kind
+    kind-found = ap (kindBy kinds) bytes-last ∙ row .found
+
+    trailer-found : trailerIn file ≡ t
+    unfolding trailerBytes
+    trailer-found =
+        rw kind-found
+        (ap (take (4 * wordCount kind)) (ap (lastBytes (trailerLength kind)) trailer-last ∙ last-behind front (trailerBytes kind r) (trailerLength kind) trailer-long)
+        ∙ take-at t (kind .last) (4 * wordCount kind) words-bytes-long)
 
     state-found : stateIn file ≡ r
     state-found = ap recordIn trailer-found ∙ record-back
 
-    image-found : lastBytes (backOf r) file ≡ imageBytes r mem table
-    image-found = last-behind p (imageBytes r mem table) (backOf r) image-length
+    image-found : lastBytes (backOf kind r) file ≡ imageBytes kind r mem table
+    image-found = last-behind p (imageBytes kind r mem table) (backOf kind r) image-length
 
-    in-range : inRange r ≡ true
-    unfolding inRange
-    in-range = let z = sizes in rw (lt-ltb 0 (r .k) (z .some), le-leb (r .k) (r .m) (z .code), le-leb (r .m) 8192 (z .words), le-leb (r .n) 511 (z .nodes))
+    file-passes : (rest : ℕ) → fileRefusal file rest ≡ rest
+    unfolding fileRefusal
+    file-passes rest =
+        let n = file-long in
+        rw (state-found, trailer-found, kind-found, bytes-last, same-refl (kind .last), sizes .range, eq-eqb (wordAt t backAt) (backOf kind r) (word-back backAt), le-leb (trailerLength kind) (length file) (omega arith), le-leb (length file) maxFile (omega arith), le-ltb (length file) (backOf kind r) (omega arith))
 
-    module _ (h : length p + backOf r ≤ 65536) where
-      file-passes : (rest : ℕ) → fileRefusal file rest ≡ rest
-      file-passes rest =
-          let n = file-long in
-          passes file rest (omega arith) (omega arith) magic-found (rw state-found in-range) (rw (state-found, trailer-found) (word-back 0 (omega arith))) (rw state-found (omega arith))
+    preface-found : prefaceOf file ≡ p
+    preface-found =
+        rw (file-passes 0, state-found, kind-found) (take-at p (imageBytes kind r mem table) (length file - backOf kind r) (omega (arith, file-long)))
 
-      pub preface-found : prefaceOf file ≡ p
-      preface-found =
-          rw (file-passes 0, state-found) (take-at p (imageBytes r mem table) (length file - backOf r) (omega (arith, file-long)))
+    module _ {a b a′ b′ : List ℕ} {x : Loaded} (l : LoadPromise file a b x a′ b′) (e : isEnough (statusOf r) (length a) (length b) ≡ true) where
+      load-passes : loadRefusal file a b ≡ 0
+      load-passes = file-passes (pick (not (isEnough (statusOf (stateIn file)) (length a) (length b))) 6 0) ∙ rw (state-found, e)
 
-      module _ (a b : List ℕ) (ha : r .m ≤ length a) (hb : 9 * r .n ≤ length b) where
-        load-passes : loadRefusal file a b ≡ 0
-        load-passes =
-            file-passes (pick (tooShort (stateIn file) (length a) (length b)) 6 0)
-            ∙ (rw (state-found, le-leb (r .m) (length a) ha, le-leb (9 * r .n) (length b) hb))
+      memory-back : wordsOf (r .m) (imageBytes kind r mem table) ≡ words
+      memory-back = all-back words (bytesOf links ++ trailerBytes kind r) (length-take-le (r .m) mem (sizes .memory)) (v .bounds .view .words)
 
-        pub answer-back : loadOf file a b ≡ record { refusal = 0; state = r }
-        answer-back = rw (load-passes, state-found)
+      links-back : wordsOf (tableWords (r .n)) (drop (4 * r .m) (imageBytes kind r mem table)) ≡ links
+      links-back =
+          let n = length-take-le (r .m) mem (sizes .memory) in
+          rw (drop-at (bytesOf words) (bytesOf links ++ trailerBytes kind r) (4 * r .m) (length-bytes words ∙ rw n))
+          (all-back links (trailerBytes kind r) (length-take-le (tableWords (r .n)) table (sizes .links)) (v .bounds .links))
 
-        pub memory-back : memAfterLoad file a b ≡ take (r .m) mem ++ drop (r .m) a
-        memory-back =
-            rw (load-passes, state-found, image-found, first-back (r .m) mem (tableBytes r table ++ trailerBytes r) (sizes .memory) (v .words))
+      restored : Restored r mem table a b x a′ b′
+      restored =
+          record {
+            answer = l .answer ∙ rw (load-passes, state-found);
+            memory = l .memory ∙ rw (load-passes, state-found, kind-found, image-found, memory-back);
+            links = l .links ∙ rw (load-passes, state-found, kind-found, image-found, links-back);
+          }
 
-        pub table-back : tableAfterLoad file a b ≡ take (9 * r .n) table ++ drop (9 * r .n) b
-        table-back =
-            let n = length-bytes (take (r .m) mem) ∙ ap (λ (n : ℕ). 4 * n) (length-take-le (r .m) mem (sizes .memory)) in
-            let e = drop-at (memoryBytes r mem) (tableBytes r table ++ trailerBytes r) (4 * r .m) n in
-            rw (load-passes, state-found, image-found, e, first-back (9 * r .n) table (trailerBytes r) (sizes .links) (v .links))
+    pub reads-back : ReadsAs file p r mem table
+    reads-back = record { preface = preface-found; load = λ a b x a′ b′ l e. restored l e }
 
 -- ---- the claims
 
-pub image-long : ImageLength
-image-long r mem table v = image-length r mem table v
+pub first-back : FirstBack
+first-back r = omega arith
 
-pub preface-is-found : PrefaceFound
-preface-is-found p r mem table v h = preface-found r mem table v p h
+pub kinds-found : KindsFound
+unfolding kindBy same
+kinds-found zero h = record { four = refl; found = refl; within = omega arith }
+kinds-found (suc i) h = absurd (omega (arith, h))
+
+pub image-long : ImageLength
+image-long = image-length
 
 pub image-loads : ImageLoads
-image-loads p r mem table v h =
-    record {
-      answer = answer-back r mem table v p h;
-      memory = memory-back r mem table v p h;
-      nodes = table-back r mem table v p h;
-    }
+image-loads kind r mem table p row v h = reads-back kind r mem table row v p h
+
+pub save-accepts : SaveAccepts
+save-accepts r mem table out a out′ s w h = s .decided .answer ∙ rw (w, le-ltb (length out) (backOf newest r) h)
 
 pub saved-loads : SavedLoads
-saved-loads r mem table out v h =
-    let z = sized r mem table (v .sizes) in
-    let w = save-writes r mem table out (v .sizes) (imageBytes r mem table ++ drop (backOf r) out) h refl in
-    let e : take (backOf r) (outAfterSave r mem table out) ≡ imageBytes r mem table =
-    ap (take (backOf r)) (sym (w .1)) ∙ take-at (imageBytes r mem table) (drop (backOf r) out) (backOf r) (image-length r mem table v) in (
-      sym (w .0),
-      sym (w .1),
-      subst (λ (s : List ℕ). LoadsAs s r mem table) (sym e) (image-loads [] r mem table v (omega (arith, z .words, z .nodes))),
+saved-loads r mem table out out′ s =
+    let a = save-accepted (s .decided) refl in
+    let z = a .sizes in
+    let v : Savable r mem table = record { sizes = a .right; bounds = s .decided .bounds } in
+    let row = kinds-found 0 (omega arith) in
+    let b = backOf newest r in
+    let e : take b out′ ≡ imageBytes newest r mem table =
+    ap (take b) (s .output ∙ rw (sym (s .decided .answer))) ∙ take-at (imageBytes newest r mem table) (drop b out) b (image-length newest r mem table row v) in (
+      omega arith,
+      λ p h. rw e (reads-back newest r mem table row v p h),
     )

@@ -1,82 +1,75 @@
--- The trailer and the image as their writers leave them. Assumes nothing.
-use mathlib.Core.Path.{_≡_, refl, ap, _∙_}
+-- The trailer and the image as their writers leave them: words, words behind them, and bytes behind all. Assumes nothing.
+use mathlib.Core.Path.{_≡_, refl, sym, _∙_}
 use mathlib.Core.List.{List, [], _∷_, _++_, append-assoc}
-use Prim.Native.Nat.{ℕ, _+_, _-_, _*_, _≤_}
+use Prim.Native.Nat.{ℕ, _+_, _-_, _*_}
 use native.Mathlib.Omega.{arith}
-use lib.ListN.{length, take, drop, length-append}
-use lib.Seq.{length-take-le}
-use borrow.Rule.Slice.PartMut.{midOf, putMid, same-len-mid}
+use lib.ListN.{length, drop, length-append}
+use borrow.Rule.Slice.PartMut.{midOf, putMid}
+use Rattle.step.specs.Table.{tableWords}
 use Rattle.machine.specs.declared.Record.{Record}
-use Rattle.image.specs.Format.{bytesOf, magic, back, trailerBytes, memoryBytes, tableBytes, imageBytes}
-use Rattle.image.specs.Load.{backOf}
+use Rattle.image.specs.declared.kinds.Kind.{Kind}
+use Rattle.image.specs.Format.{bytesOf, newest, regsAt, qifvAt, wordCount, trailerLength, backOf, tailWords, trailerWords, trailerBytes, image}
 use Rattle.image.proofs.Bytes.{length-bytes, bytes-append}
-use Rattle.image.proofs.Parts.{room, behind}
+use Rattle.image.proofs.Parts.{behind}
 
--- the sizes at the front of l, the registers, qifv and qifw, and the last four bytes, each in the part behind those before it
-module _ (r : Record) (b : ℕ) (out : List ℕ) (sixteen : length (r .regs) ≡ 16) (e : b ≡ back (r .m) (r .n)) where
-  abbrev head : List ℕ
-  head = b ∷ r .m ∷ r .k ∷ r .n ∷ []
+-- the words a stand at the front of l, and behind them what out had there
+abbrev pub Front : List ℕ → List ℕ → List ℕ → Type 0
+Front a out l = l ≡ bytesOf a ++ drop (4 * length a) out
 
-  abbrev tail : List ℕ
-  tail = r .qifv ∷ r .qifw ∷ []
+module _ (a out l : List ℕ) (x : ℕ) (e : x ≡ 4 * length a) (f : Front a out l) where
+  -- q in the part behind them
+  pub bytes-behind : (q part : List ℕ) (n : ℕ) → part ≡ q ++ drop n (midOf x (length l - x) l)
+      → putMid x (length l - x) l part ≡ (bytesOf a ++ q) ++ drop (x + n) out
+  bytes-behind q part n g = behind (bytesOf a) q out l part x n (length-bytes a ∙ sym e) (rw e f) g
 
-  registers-long : 4 * length (r .regs) ≡ 64
-  registers-long = ap (λ (n : ℕ). 4 * n) sixteen
+  -- the words b there
+  pub words-behind : (b part : List ℕ) → Front b (midOf x (length l - x) l) part → Front (a ++ b) out (putMid x (length l - x) l part)
+  words-behind b part g =
+      let n : x + 4 * length b ≡ 4 * length (a ++ b) = simp length-append (omega arith) in
+      bytes-behind (bytesOf b) part (4 * length b) g ∙ rw (n, bytes-append a b)
 
-  pub trailer-written : (l part l′ part′ l″ part″ : List ℕ)
-      → l ≡ bytesOf head ++ drop 16 out
-      → part ≡ bytesOf (r .regs) ++ drop (4 * length (r .regs)) (midOf 16 (length l - 16) l)
-      → l′ ≡ putMid 16 (length l - 16) l part
-      → part′ ≡ bytesOf tail ++ drop 8 (midOf 80 (length l′ - 80) l′)
-      → l″ ≡ putMid 80 (length l′ - 80) l′ part′
-      → part″ ≡ magic ++ drop 4 (midOf 88 (length l″ - 88) l″)
-      → putMid 88 (length l″ - 88) l″ part″ ≡ trailerBytes r ++ drop 92 out
-  unfolding trailerBytes bytesOf
-  trailer-written l part l′ part′ l″ part″ f g g′ h h′ k =
-      let front = bytesOf head ++ bytesOf (r .regs) in
-      let n : length front ≡ 80 = rw (length-bytes (r .regs), registers-long) in
-      let m : length (front ++ bytesOf tail) ≡ 88 = length-append front (bytesOf tail) ∙ (rw n) in
-      let x = g′ ∙ behind (bytesOf head) (bytesOf (r .regs)) out l part 16 64 refl f (g ∙ (rw registers-long)) in
-      let y = h′ ∙ behind front (bytesOf tail) out l′ part′ 80 8 n x h in
-      behind (front ++ bytesOf tail) magic out l″ part″ 88 4 m y k
-      ∙ rw (e, bytes-append (r .regs) tail)
+-- ---- the trailer that save writes
 
--- the memory words at the front of l, the table words in the part behind them, and the trailer in the part behind both
-module _ (r : Record) (mem table out : List ℕ) (hm : r .m ≤ length mem) (ht : 9 * r .n ≤ length table) (ho : backOf r ≤ length out) where
-  memory-long : 4 * length (take (r .m) mem) ≡ 4 * r .m
-  memory-long = ap (λ (n : ℕ). 4 * n) (length-take-le (r .m) mem hm)
+-- the sizes, the registers and qifv and qifw
+pub fields-written : (r : Record) (out : List ℕ) {b : ℕ} → length (r .regs) ≡ 16 → b ≡ backOf newest r → (l part l′ part′ : List ℕ)
+    → (let head = b ∷ r .m ∷ r .k ∷ r .n ∷ [] in
+    let tail = tailWords newest r in
+    let x = 4 * regsAt in
+    let y = 4 * qifvAt in
+    Front head out l → Front (r .regs) (midOf x (length l - x) l) part → l′ ≡ putMid x (length l - x) l part
+    → Front tail (midOf y (length l′ - y) l′) part′ → Front (trailerWords newest r) out (putMid y (length l′ - y) l′ part′))
+fields-written r out {b} n e l part l′ part′ f g h k =
+    let head = b ∷ r .m ∷ r .k ∷ r .n ∷ [] in
+    let tail = tailWords newest r in
+    let m : 4 * qifvAt ≡ 4 * length (head ++ r .regs) = simp n in
+    words-behind (head ++ r .regs) out l′ (4 * qifvAt) m (h ∙ words-behind head out l (4 * regsAt) refl f (r .regs) part g) tail part′ k
+    ∙ rw (append-assoc head (r .regs) tail, e)
 
-  table-long : 4 * length (take (9 * r .n) table) ≡ 4 * (9 * r .n)
-  table-long = ap (λ (n : ℕ). 4 * n) (length-take-le (9 * r .n) table ht)
+-- and the last bytes
+pub trailer-written : (r : Record) (out : List ℕ) {n : ℕ} → length (r .regs) ≡ 16 → n ≡ wordCount newest → (l part : List ℕ)
+    → Front (trailerWords newest r) out l → part ≡ newest .last ++ drop 4 (midOf (4 * n) (length l - 4 * n) l)
+    → putMid (4 * n) (length l - 4 * n) l part ≡ trailerBytes newest r ++ drop (trailerLength newest) out
+unfolding trailerBytes
+trailer-written r out {n} s e l part f g =
+    let m : 4 * n ≡ 4 * length (trailerWords newest r) = simp (length-append, s) (omega arith) in
+    let k : 4 * n + 4 ≡ trailerLength newest = omega arith in
+    bytes-behind (trailerWords newest r) out l (4 * n) m f (newest .last) part 4 g ∙ rw k
 
+-- ---- the image
+
+-- the M words, the 9 N words behind them and the trailer behind both
+module _ (kind : Kind) (r : Record) (words links out : List ℕ) (hm : length words ≡ r .m) (ht : length links ≡ tableWords (r .n)) where
   abbrev at : ℕ
-  at = 4 * r .m
+  at = 4 * length words
 
   abbrev end : ℕ
-  end = 4 * r .m + 4 * (9 * r .n)
+  end = 4 * length words + 4 * length links
 
-  module _ (l : List ℕ) (e : length l ≡ length out) where
-    pub table-room : 4 * length (take (9 * r .n) table) ≤ length (midOf at (length l - at) l)
-    table-room = room at (4 * length (take (9 * r .n) table)) l (rw (table-long, e) (omega arith))
-
-    pub trailer-room : (part : List ℕ) → length part ≡ length (midOf at (length l - at) l)
-        → 92 ≤ length (midOf end (length (putMid at (length l - at) l part) - end) (putMid at (length l - at) l part))
-    trailer-room part h =
-        room end 92 (putMid at (length l - at) l part) (rw (same-len-mid at (length l - at) l part h, e) (omega arith))
-
-  pub image-written : (l part l′ part′ : List ℕ)
-      → l ≡ memoryBytes r mem ++ drop (4 * length (take (r .m) mem)) out
-      → part ≡ tableBytes r table ++ drop (4 * length (take (9 * r .n) table)) (midOf at (length l - at) l)
-      → l′ ≡ putMid at (length l - at) l part
-      → part′ ≡ trailerBytes r ++ drop 92 (midOf end (length l′ - end) l′)
-      → putMid end (length l′ - end) l′ part′ ≡ imageBytes r mem table ++ drop (backOf r) out
+  pub image-written : (l part l′ part′ : List ℕ) → Front words out l → Front links (midOf at (length l - at) l) part
+      → l′ ≡ putMid at (length l - at) l part → part′ ≡ trailerBytes kind r ++ drop (trailerLength kind) (midOf end (length l′ - end) l′)
+      → putMid end (length l′ - end) l′ part′ ≡ image kind r words links ++ drop (backOf kind r) out
   image-written l part l′ part′ e f g h =
-      let a : l ≡ memoryBytes r mem ++ drop at out = e ∙ (rw memory-long) in
-      let b : part ≡ tableBytes r table ++ drop (4 * (9 * r .n)) (midOf at (length l - at) l) = f ∙ (rw table-long) in
-      let p : length (memoryBytes r mem) ≡ at = length-bytes (take (r .m) mem) ∙ memory-long in
-      let q : length (memoryBytes r mem ++ tableBytes r table) ≡ end =
-      length-append (memoryBytes r mem) (tableBytes r table) ∙ (rw (p, length-bytes (take (9 * r .n) table), table-long)) in
-      let n : end + 92 ≡ backOf r = omega arith in
-      behind (memoryBytes r mem ++ tableBytes r table) (trailerBytes r) out l′ part′ end 92 q
-      (g ∙ behind (memoryBytes r mem) (tableBytes r table) out l part at (4 * (9 * r .n)) p a b) h
-      ∙ rw (n, append-assoc (memoryBytes r mem) (tableBytes r table) (trailerBytes r))
+      let n : end ≡ 4 * length (words ++ links) = simp length-append (omega arith) in
+      let m : end + trailerLength kind ≡ backOf kind r = omega arith in
+      bytes-behind (words ++ links) out l′ end n (g ∙ words-behind words out l at refl e links part f) (trailerBytes kind r) part′ (trailerLength kind) h
+      ∙ rw (m, bytes-append words links, append-assoc (bytesOf words) (bytesOf links) (trailerBytes kind r))

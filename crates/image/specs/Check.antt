@@ -6,12 +6,11 @@ use lib.Dec.{eqb, ltb, leb}
 use lib.ListN.{getD, take}
 use Rattle.word.specs.Word.{pick}
 use Rattle.qins.specs.Decode.{isInstruction}
-use Rattle.step.specs.State.{nodes}
+use Rattle.step.specs.View.{nodes}
 use Rattle.step.specs.Table.{fc, lc, cf, cl, nx, pr, isNode, link}
 use Rattle.machine.specs.declared.Record.{Record}
-use Rattle.machine.specs.Calls.{statusOf}
+use Rattle.machine.specs.Calls.{statusOf, wrongSizes}
 use Rattle.image.specs.declared.Checked.{Checked}
-use Rattle.image.specs.Save.{wrongSizes}
 
 -- the first of the n numbers from i on where the test holds, i + n where there is none
 unfoldable pub firstOf : (ℕ → Bool) → ℕ → ℕ → ℕ
@@ -26,17 +25,19 @@ returns t n v j g h =
     eqb (link t n v j) 0
     || (isNode n (link t n v j) && (eqb (link t n (link t n v j) g) v || eqb (link t n (link t n v j) h) v))
 
--- fc_x by cf, lc_x by cl, nx by pr, pr by nx; cf by fc0 or fc1, cl by lc0 or lc1
+-- fc_x by cf, lc_x by cl
+unfoldable pub childrenReturn : List ℕ → ℕ → ℕ → ℕ → Bool
+childrenReturn t n v x = returns t n v (fc x) cf cf && returns t n v (lc x) cl cl
+
+-- nx by pr, pr by nx; cf by fc0 or fc1, cl by lc0 or lc1
 unfoldable pub unpaired : List ℕ → ℕ → ℕ → Bool
 unpaired t n v =
-    not (returns t n v (fc 0) cf cf
-    && (returns t n v (fc 1) cf cf
-    && (returns t n v (lc 0) cl cl
-    && (returns t n v (lc 1) cl cl
-    && (returns t n v cf (fc 0) (fc 1)
-    && (returns t n v cl (lc 0) (lc 1)
+    not (childrenReturn t n v 0
+    && (childrenReturn t n v 1
     && (returns t n v nx pr pr
-    && returns t n v pr nx nx)))))))
+    && (returns t n v pr nx nx
+    && (returns t n v cf (fc 0) (fc 1)
+    && returns t n v cl (lc 0) (lc 1))))))
 
 -- ---- the check
 

@@ -1,53 +1,81 @@
 -- The laws of images: load reads back what save writes.
-use Prim.Native.Nat.{ℕ, _+_, _*_, _^_, _<_, _≤_}
+use Prim.Native.Nat.{ℕ, _+_, _*_, _<_, _≤_}
 use mathlib.Core.Path.{_≡_}
-use mathlib.Core.Bool.{false}
+use mathlib.Core.Bool.{true, false}
 use mathlib.Core.List.{List, _++_}
-use lib.ListN.{length, take, drop}
-use Rattle.step.specs.State.{Words}
+use lib.ListN.{length, getD, take, drop}
+use Rattle.step.specs.Table.{tableWords}
+use Rattle.step.specs.View.{nodes}
+use Rattle.step.specs.Sizes.{isEnough}
 use Rattle.machine.specs.declared.Record.{Record}
-use Rattle.image.specs.Format.{imageBytes}
-use Rattle.image.specs.Load.{backOf, loadOf, memAfterLoad, tableAfterLoad, prefaceOf}
-use Rattle.image.specs.Save.{wrongSizes, saveOf, outAfterSave}
+use Rattle.machine.specs.Calls.{statusOf, wrongSizes}
+use Rattle.image.specs.declared.kinds.Kind.{Kind}
+use Rattle.image.specs.declared.Loaded.{Loaded}
+use Rattle.image.specs.Format.{qrm1, kinds, newest, kindBy, backOf, kept, imageBytes}
+use Rattle.image.specs.Load.{maxFile, LoadPromise, prefaceOf}
+use Rattle.image.specs.Save.{SaveBounds, SavePromise}
 
--- A state that save does not refuse by 10. The rest the types give: sixteen registers, and words of 32 bits.
+-- ---- the kinds
+
+-- Claim: the back of the first kind is 4 M + 36 N + 92
+abbrev pub FirstBack : Type 0
+FirstBack = (r : Record) → backOf qrm1 r ≡ 4 * r .m + 36 * r .n + 92
+
+-- a row of the table: its four last bytes find it, and it has no more words than the newest
+pub record Row (kind : Kind) : Type 0 where
+  pub four : length (kind .last) ≡ 4
+  pub found : kindBy kinds (kind .last) ≡ kind
+  pub within : kind .more ≤ newest .more
+
+-- Claim: every kind of the table is such a row
+abbrev pub KindsFound : Type 0
+KindsFound = (i : ℕ) → i < length kinds → Row (getD kinds i newest)
+
+-- ---- what a file is read as
+
+-- Of a load into a and b: the answer x is no refusal and r, and a′ and b′ hold the first M and 9 N words of mem and
+-- table, and behind them what a and b had there.
+pub record Restored (r : Record) (mem table a b : List ℕ) (x : Loaded) (a′ b′ : List ℕ) : Type 0 where
+  pub answer : x ≡ record { refusal = 0; state = r }
+  pub memory : a′ ≡ take (r .m) mem ++ drop (r .m) a
+  pub links : b′ ≡ nodes (statusOf r) table ++ drop (tableWords (r .n)) b
+
+-- The preface of the file s is p, and every load of it into lent words that are enough restores r, mem and table.
+pub record ReadsAs (s p : List ℕ) (r : Record) (mem table : List ℕ) : Type 0 where
+  pub preface : prefaceOf s ≡ p
+  pub load : (a b : List ℕ) (x : Loaded) (a′ b′ : List ℕ) → LoadPromise s a b x a′ b′ → isEnough (statusOf r) (length a) (length b) ≡ true
+      → Restored r mem table a b x a′ b′
+
+-- ---- an image of any kind
+
+-- a state that save does not refuse by 10
 pub record Savable (r : Record) (mem table : List ℕ) : Type 0 where
   pub sizes : wrongSizes r mem table ≡ false
-  pub sixteen : length (r .regs) ≡ 16
-  pub regs : Words (r .regs)
-  pub words : Words mem
-  pub links : Words table
-  pub node : r .qifv < 2 ^ 32
-  pub wait : r .qifw < 2 ^ 32
+  pub bounds : SaveBounds r mem table
 
--- The file s loads as the state of r, mem and table, into any lent words that are enough: the same record,
--- the same first M and 9 N words, and the lent words behind them as they were.
-pub record LoadsAs (s : List ℕ) (r : Record) (mem table : List ℕ) : Type 0 where
-  pub answer : (a b : List ℕ) → r .m ≤ length a → 9 * r .n ≤ length b → loadOf s a b ≡ record { refusal = 0; state = r }
-  pub memory : (a b : List ℕ) → r .m ≤ length a → 9 * r .n ≤ length b → memAfterLoad s a b ≡ take (r .m) mem ++ drop (r .m) a
-  pub nodes : (a b : List ℕ) → r .m ≤ length a → 9 * r .n ≤ length b
-      → tableAfterLoad s a b ≡ take (9 * r .n) table ++ drop (9 * r .n) b
-
--- Claim: an image is back bytes long
+-- Claim: it is back bytes long
 abbrev pub ImageLength : Type 0
-ImageLength = (r : Record) (mem table : List ℕ) → Savable r mem table → length (imageBytes r mem table) ≡ backOf r
+ImageLength =
+    (kind : Kind) (r : Record) (mem table : List ℕ) → Row kind → Savable r mem table → length (imageBytes kind r mem table) ≡ backOf kind r
 
--- Claim: an image loads as its state behind any preface with which the file is not too long
+-- Claim: behind any preface p with which the file is not too long, it is read as p and its state, as far as its kind has it
 abbrev pub ImageLoads : Type 0
 ImageLoads =
-    (p : List ℕ) (r : Record) (mem table : List ℕ) → Savable r mem table → length p + backOf r ≤ 65536
-    → LoadsAs (p ++ imageBytes r mem table) r mem table
+    (kind : Kind) (r : Record) (mem table p : List ℕ) → Row kind → Savable r mem table → length p + backOf kind r ≤ maxFile
+    → ReadsAs (p ++ imageBytes kind r mem table) p (kept kind r) mem table
 
--- Claim: and the preface of that file is the bytes before the image
-abbrev pub PrefaceFound : Type 0
-PrefaceFound =
-    (p : List ℕ) (r : Record) (mem table : List ℕ) → Savable r mem table → length p + backOf r ≤ 65536
-    → prefaceOf (p ++ imageBytes r mem table) ≡ p
+-- ---- what save wrote
 
--- Claim: with room for back bytes save does not refuse, writes the image and nothing behind it, and what it writes loads as its state
+-- Claim: a save of right sizes with room for back bytes is accepted
+abbrev pub SaveAccepts : Type 0
+SaveAccepts =
+    (r : Record) (mem table out : List ℕ) (a : ℕ) (out′ : List ℕ) → SavePromise r mem table out a out′
+    → wrongSizes r mem table ≡ false → backOf newest r ≤ length out → a ≡ 0
+
+-- Claim: what an accepted save wrote is not too long, and behind any preface p with which the file is not, it is read as p and
+-- the state that was saved
 abbrev pub SavedLoads : Type 0
 SavedLoads =
-    (r : Record) (mem table out : List ℕ) → Savable r mem table → backOf r ≤ length out
-    → (saveOf r mem table out ≡ 0)
-    × (outAfterSave r mem table out ≡ imageBytes r mem table ++ drop (backOf r) out)
-    × LoadsAs (take (backOf r) (outAfterSave r mem table out)) r mem table
+    (r : Record) (mem table out out′ : List ℕ) → SavePromise r mem table out 0 out′
+    → (backOf newest r ≤ maxFile)
+    × ((p : List ℕ) → length p + backOf newest r ≤ maxFile → ReadsAs (p ++ take (backOf newest r) out′) p r mem table)

@@ -1,11 +1,14 @@
 -- An image (document 01, "Image"): M memory words, 9 N table words and a trailer, as little-endian bytes.
--- Writing and reading both go by this file.
+-- Writing and reading both go by this file, and over the kinds of image.
 use Prim.Native.Nat.{ℕ, zero, suc, _+_, _-_, _*_, _/_, _%_}
 use mathlib.Core.Bool.{Bool, true, false, _&&_}
 use mathlib.Core.List.{List, [], _∷_, _++_}
 use lib.Dec.{eqb}
 use lib.ListN.{length, getD, take, drop}
+use Rattle.word.specs.Word.{pick}
+use Rattle.step.specs.Table.{tableWords}
 use Rattle.machine.specs.declared.Record.{Record}
+use Rattle.image.specs.declared.kinds.Kind.{Kind}
 
 -- ---- words as bytes
 
@@ -30,61 +33,20 @@ unfoldable pub wordsOf : ℕ → List ℕ → List ℕ
 wordsOf zero s = []
 wordsOf (suc n) s = wordsOf n s ++ (wordAt s n ∷ [])
 
--- ---- the trailer
+-- ---- kinds of image: each has its last four bytes, and so many words more before them than the first kind
 
--- the last four bytes
-abbrev pub magic : List ℕ
-magic = 0x51 ∷ 0x52 ∷ 0x4D ∷ 0x31 ∷ []
+abbrev pub qrm1 : Kind
+qrm1 = record { last = 0x51 ∷ 0x52 ∷ 0x4D ∷ 0x31 ∷ []; more = 0 }
 
-abbrev pub trailerLength : ℕ
-trailerLength = 92
+-- newest first: save writes the newest, load takes all
+abbrev pub kinds : List Kind
+kinds = qrm1 ∷ []
 
--- from the file's end to the first memory byte, for M and N
-abbrev pub back : ℕ → ℕ → ℕ
-back m n = 4 * m + 36 * n + trailerLength
+abbrev pub newest : Kind
+newest = qrm1
 
--- its words before the last four bytes
-abbrev pub trailerWords : Record → List ℕ
-trailerWords r = back (r .m) (r .n) ∷ r .m ∷ r .k ∷ r .n ∷ r .regs ++ (r .qifv ∷ r .qifw ∷ [])
-
-unfoldable pub trailerBytes : Record → List ℕ
-trailerBytes r = bytesOf (trailerWords r) ++ magic
-
--- the same words, read from the bytes t of a trailer
-abbrev pub backIn : List ℕ → ℕ
-backIn t = wordAt t 0
-
-unfoldable pub recordIn : List ℕ → Record
-recordIn t =
-    record {
-      regs = wordsOf 16 (drop 16 t);
-      qifv = wordAt t 20;
-      qifw = wordAt t 21;
-      k = wordAt t 2;
-      m = wordAt t 1;
-      n = wordAt t 3;
-    }
-
--- ---- the image
-
-abbrev pub memoryBytes : Record → List ℕ → List ℕ
-memoryBytes r mem = bytesOf (take (r .m) mem)
-
-abbrev pub tableBytes : Record → List ℕ → List ℕ
-tableBytes r table = bytesOf (take (9 * r .n) table)
-
-abbrev pub imageBytes : Record → List ℕ → List ℕ → List ℕ
-imageBytes r mem table = memoryBytes r mem ++ (tableBytes r table ++ trailerBytes r)
-
--- in a file s, with whatever before them: the trailer's bytes, and those of an image of b bytes
-abbrev pub lastBytes : ℕ → List ℕ → List ℕ
-lastBytes b s = drop (length s - b) s
-
-abbrev pub trailerOf : List ℕ → List ℕ
-trailerOf s = lastBytes trailerLength s
-
-abbrev pub stateIn : List ℕ → Record
-stateIn s = recordIn (trailerOf s)
+abbrev pub oldest : Kind
+oldest = qrm1
 
 -- the bytes a and b are the same
 unfoldable pub same : List ℕ → List ℕ → Bool
@@ -93,5 +55,105 @@ same [] (y ∷ b) = false
 same (x ∷ a) [] = false
 same (x ∷ a) (y ∷ b) = eqb x y && same a b
 
-abbrev pub hasMagic : List ℕ → Bool
-hasMagic s = same (lastBytes 4 s) magic
+-- the first of the kinds ks with the last bytes l, the oldest where there is none
+unfoldable pub kindBy : List Kind → List ℕ → Kind
+kindBy [] l = oldest
+kindBy (kind ∷ ks) l = pick (same l (kind .last)) kind (kindBy ks l)
+
+-- ---- the trailer: words, and the last four bytes
+
+-- where its words stand: back, M, K, N, the registers, qifv, qifw, and those that a kind has more
+abbrev pub backAt : ℕ
+backAt = 0
+
+abbrev pub mAt : ℕ
+mAt = 1
+
+abbrev pub kAt : ℕ
+kAt = 2
+
+abbrev pub nAt : ℕ
+nAt = 3
+
+abbrev pub regsAt : ℕ
+regsAt = 4
+
+abbrev pub qifvAt : ℕ
+qifvAt = regsAt + 16
+
+abbrev pub qifwAt : ℕ
+qifwAt = qifvAt + 1
+
+abbrev pub moreAt : ℕ
+moreAt = qifwAt + 1
+
+-- how many words, and its length in bytes: 92 for the first kind
+abbrev pub wordCount : Kind → ℕ
+wordCount kind = moreAt + kind .more
+
+abbrev pub trailerLength : Kind → ℕ
+trailerLength kind = 4 * wordCount kind + 4
+
+-- from the file's end to the first memory byte
+abbrev pub backOf : Kind → Record → ℕ
+backOf kind r = 4 * r .m + 4 * tableWords (r .n) + trailerLength kind
+
+-- what newer kinds have more, in their order: nothing yet
+abbrev pub further : Record → List ℕ
+further r = []
+
+-- the words behind the registers, and all words
+abbrev pub tailWords : Kind → Record → List ℕ
+tailWords kind r = r .qifv ∷ r .qifw ∷ take (kind .more) (further r)
+
+abbrev pub trailerWords : Kind → Record → List ℕ
+trailerWords kind r = backOf kind r ∷ r .m ∷ r .k ∷ r .n ∷ r .regs ++ tailWords kind r
+
+unfoldable pub trailerBytes : Kind → Record → List ℕ
+trailerBytes kind r = bytesOf (trailerWords kind r) ++ kind .last
+
+-- read back from the bytes t of the words, where a word that its kind lacks is 0
+unfoldable pub recordIn : List ℕ → Record
+recordIn t =
+    record {
+      regs = wordsOf 16 (drop (4 * regsAt) t);
+      qifv = wordAt t qifvAt;
+      qifw = wordAt t qifwAt;
+      k = wordAt t kAt;
+      m = wordAt t mAt;
+      n = wordAt t nAt;
+    }
+
+-- r as an image of the kind has it: with 0 for each field whose words it lacks, which is none yet
+abbrev pub kept : Kind → Record → Record
+kept kind r = r
+
+-- ---- the image
+
+-- of M memory words and 9 N table words
+abbrev pub image : Kind → Record → List ℕ → List ℕ → List ℕ
+image kind r words links = bytesOf words ++ (bytesOf links ++ trailerBytes kind r)
+
+-- of the lent memory and table, whose first words count
+abbrev pub imageBytes : Kind → Record → List ℕ → List ℕ → List ℕ
+imageBytes kind r mem table = image kind r (take (r .m) mem) (take (tableWords (r .n)) table)
+
+-- ---- in a file s, with whatever before the image
+
+-- the last n bytes, all where there are fewer
+abbrev pub lastBytes : ℕ → List ℕ → List ℕ
+lastBytes n s = drop (length s - n) s
+
+abbrev pub kindOf : List ℕ → Kind
+kindOf s = kindBy kinds (lastBytes 4 s)
+
+-- the bytes of the trailer's words
+abbrev pub trailerIn : List ℕ → List ℕ
+trailerIn s = take (4 * wordCount (kindOf s)) (lastBytes (trailerLength (kindOf s)) s)
+
+abbrev pub stateIn : List ℕ → Record
+stateIn s = recordIn (trailerIn s)
+
+-- back by the formula
+abbrev pub backIn : List ℕ → ℕ
+backIn s = backOf (kindOf s) (stateIn s)

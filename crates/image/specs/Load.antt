@@ -1,47 +1,48 @@
 -- Load and preface (document 01, "Image").
-use Prim.Native.Nat.{ℕ, _+_, _-_, _*_}
+use Prim.Native.Nat.{ℕ, _-_, _*_}
+use mathlib.Core.Path.{_≡_}
 use mathlib.Core.Bool.{Bool, not, _&&_}
 use mathlib.Core.List.{List, [], _++_}
 use lib.Dec.{eqb, ltb, leb}
 use lib.ListN.{length, take, drop}
 use Rattle.word.specs.Word.{pick}
-use Rattle.machine.specs.declared.Record.{Record}
-use Rattle.machine.specs.Calls.{zeros}
+use Rattle.step.specs.Table.{tableWords}
+use Rattle.step.specs.Sizes.{inRange, isEnough}
+use Rattle.machine.specs.Calls.{statusOf, zeros}
 use Rattle.image.specs.declared.Loaded.{Loaded}
-use Rattle.image.specs.Format.{wordsOf, trailerLength, back, backIn, lastBytes, trailerOf, stateIn, hasMagic}
+use Rattle.image.specs.Format.{wordAt, wordsOf, same, backAt, trailerLength, lastBytes, kindOf, trailerIn, stateIn, backIn}
 
--- M is 1 to 8192, K is 1 to M and N is 0 to 511
-unfoldable pub inRange : Record → Bool
-inRange r = ltb 0 (r .k) && (leb (r .k) (r .m) && (leb (r .m) 8192 && leb (r .n) 511))
+abbrev pub maxFile : ℕ
+maxFile = 65536
 
--- under 92 or over 65,536 bytes
-abbrev pub badLength : ℕ → Bool
-badLength l = not (leb trailerLength l && leb l 65536)
+-- under the trailer of its kind, 92 where it is of none, or over 65,536 bytes
+abbrev pub badLength : List ℕ → Bool
+badLength s = not (leb (trailerLength (kindOf s)) (length s) && leb (length s) maxFile)
 
--- back as the sizes in the record give it
-abbrev pub backOf : Record → ℕ
-backOf r = back (r .m) (r .n)
+-- the last four bytes are those of its kind
+abbrev pub hasLast : List ℕ → Bool
+hasLast s = same (lastBytes 4 s) (kindOf s .last)
 
 -- refusals 1 to 5, in order, and what follows them
 unfoldable pub fileRefusal : List ℕ → ℕ → ℕ
 fileRefusal s rest =
-    pick (badLength (length s)) 1
-    (pick (not (hasMagic s)) 2
-    (pick (not (inRange (stateIn s))) 3
-    (pick (not (eqb (backIn (trailerOf s)) (backOf (stateIn s)))) 4
-    (pick (ltb (length s) (backOf (stateIn s))) 5
+    pick (badLength s) 1
+    (pick (not (hasLast s)) 2
+    (pick (not (inRange (statusOf (stateIn s)))) 3
+    (pick (not (eqb (wordAt (trailerIn s) backAt) (backIn s))) 4
+    (pick (ltb (length s) (backIn s)) 5
     rest))))
 
--- 6: lent memory of a words or table of b words too short
-abbrev pub tooShort : Record → ℕ → ℕ → Bool
-tooShort r a b = not (leb (r .m) a && leb (9 * r .n) b)
-
+-- and 6: lent memory or table too short
 abbrev pub loadRefusal : List ℕ → List ℕ → List ℕ → ℕ
-loadRefusal s mem table = fileRefusal s (pick (tooShort (stateIn s) (length mem) (length table)) 6 0)
+loadRefusal s mem table = fileRefusal s (pick (not (isEnough (statusOf (stateIn s)) (length mem) (length table))) 6 0)
 
--- the bytes from the first memory byte on
-abbrev pub imageOf : List ℕ → List ℕ
-imageOf s = lastBytes (backOf (stateIn s)) s
+-- where the first memory byte stands, and the bytes from it on
+abbrev pub startIn : List ℕ → ℕ
+startIn s = length s - backIn s
+
+abbrev pub imageIn : List ℕ → List ℕ
+imageIn s = drop (startIn s) s
 
 -- what load answers
 abbrev pub loadOf : List ℕ → List ℕ → List ℕ → Loaded
@@ -57,14 +58,20 @@ filled n bytes words = wordsOf n bytes ++ drop n words
 
 abbrev pub memAfterLoad : List ℕ → List ℕ → List ℕ → List ℕ
 memAfterLoad s mem table =
-    pick (eqb (loadRefusal s mem table) 0) (filled (stateIn s .m) (imageOf s) mem) mem
+    pick (eqb (loadRefusal s mem table) 0) (filled (stateIn s .m) (imageIn s) mem) mem
 
 abbrev pub tableAfterLoad : List ℕ → List ℕ → List ℕ → List ℕ
 tableAfterLoad s mem table =
     pick (eqb (loadRefusal s mem table) 0)
-    (filled (9 * stateIn s .n) (drop (4 * stateIn s .m) (imageOf s)) table)
+    (filled (tableWords (stateIn s .n)) (drop (4 * stateIn s .m) (imageIn s)) table)
     table
+
+-- What a load of file into mem and table promises of its answer a and of the lent words at exit.
+pub record LoadPromise (file mem table : List ℕ) (a : Loaded) (mem′ table′ : List ℕ) : Type 0 where
+  pub answer : a ≡ loadOf file mem table
+  pub memory : mem′ ≡ memAfterLoad file mem table
+  pub links : table′ ≡ tableAfterLoad file mem table
 
 -- all before the first memory byte; empty where load would refuse 1 to 5
 abbrev pub prefaceOf : List ℕ → List ℕ
-prefaceOf s = pick (eqb (fileRefusal s 0) 0) (take (length s - backOf (stateIn s)) s) []
+prefaceOf s = pick (eqb (fileRefusal s 0) 0) (take (startIn s) s) []

@@ -3,19 +3,25 @@ ghost use mathlib.Core.Path.{_≡_};
 ghost use mathlib.Core.List.{_++_};
 ghost use Prim.Native.Nat.{_*_, _^_, _<_, _≤_};
 ghost use lib.ListN.{length, take, drop};
-ghost use Rattle.image.specs.Format.{imageBytes};
-ghost use Rattle.image.specs.Load.{backOf, loadRefusal, filled, loadOf, memAfterLoad, tableAfterLoad, prefaceOf};
-ghost use Rattle.image.specs.Save.{saveOf, outAfterSave};
+ghost use Rattle.step.specs.Table.{tableWords};
+ghost use Rattle.image.specs.Format.{newest, backOf, image};
+ghost use Rattle.image.specs.Load.{loadRefusal, filled, LoadPromise, prefaceOf};
+ghost use Rattle.image.specs.Save.{SaveDecided, SavePromise};
 ghost use Rattle.image.specs.Check.{firstOf, noInstruction, checkOf};
 
+mod kinds;
 mod links;
 mod trailer;
 mod words;
 
+use kinds::NEWEST;
 use machine::Record;
+use step::sizes::is_enough;
+use step::table::table_words;
 use trailer::back_of;
 use trailer::file_refusal;
 use trailer::record_of;
+use trailer::start_of;
 use words::read_words;
 use words::write_words;
 
@@ -40,30 +46,24 @@ fn load_refusal(file: &[u8], mem: &[u32], table: &[u32]) -> u32
     ensures { λ r. ⌜ r ≡ loadRefusal (now (file .entry)) (now (mem .entry)) (now (table .entry)) ⌝ }
 {
     let r = record_of(file);
-    let words = r.m as usize <= mem.len();
-    let links = Record::NODE_WORDS * (r.n as usize) <= table.len();
-    file_refusal(file, word::choose(!word::both(words, links), 6, 0))
+    let short = !is_enough(r.status(), mem, table);
+    file_refusal(file, word::choose(short, 6, 0))
 }
 
-// Fills the first M words of mem and the first 9 N of table from an image.
-fn fill(image: &[u8], r: Record, mem: &mut [u32], table: &mut [u32])
-    requires { ⌜ (r .m ≤ length (now mem)) × (9 * r .n ≤ length (now table)) × (4 * r .m ≤ length (now image)) ⌝ }
+// Fills the first m words of mem and the first n of table from an image.
+fn fill(image: &[u8], m: usize, n: usize, mem: &mut [u32], table: &mut [u32])
+    requires { ⌜ (m ≤ length (now mem)) × (n ≤ length (now table)) × (4 * m ≤ length (now image)) ⌝ }
     ensures { λ _.
-        ⌜ (now (mem .exit) ≡ filled (r .m) (now (image .entry)) (now (mem .entry)))
-        × (now (table .exit) ≡ filled (9 * r .n) (drop (4 * r .m) (now (image .entry))) (now (table .entry))) ⌝ }
+        ⌜ (now (mem .exit) ≡ filled m (now (image .entry)) (now (mem .entry)))
+        × (now (table .exit) ≡ filled n (drop (4 * m) (now (image .entry))) (now (table .entry))) ⌝ }
 {
-    let m = r.m as usize;
-    let links = Record::NODE_WORDS * (r.n as usize);
     let at = 4 * m;
     read_words(image, &mut mem[..m]);
-    read_words(&image[at..], &mut table[..links]);
+    read_words(&image[at..], &mut table[..n]);
 }
 
 pub fn load(file: &[u8], mem: &mut [u32], table: &mut [u32]) -> Loaded
-    ensures { λ r.
-        ⌜ (r ≡ loadOf (now (file .entry)) (now (mem .entry)) (now (table .entry)))
-        × (now (mem .exit) ≡ memAfterLoad (now (file .entry)) (now (mem .entry)) (now (table .entry)))
-        × (now (table .exit) ≡ tableAfterLoad (now (file .entry)) (now (mem .entry)) (now (table .entry))) ⌝ }
+    ensures { λ a. ⌜ LoadPromise (now (file .entry)) (now (mem .entry)) (now (table .entry)) a (now (mem .exit)) (now (table .exit)) ⌝ }
 {
     let refusal = load_refusal(file, mem, table);
     if refusal != 0 {
@@ -73,9 +73,8 @@ pub fn load(file: &[u8], mem: &mut [u32], table: &mut [u32]) -> Loaded
         };
     }
     let r = record_of(file);
-    let back = back_of(r);
-    let at = file.len() - back;
-    fill(&file[at..], r, mem, table);
+    let at = start_of(file);
+    fill(&file[at..], r.m as usize, table_words(r.n), mem, table);
     Loaded { refusal, state: r }
 }
 
@@ -86,39 +85,44 @@ pub fn preface(file: &[u8]) -> &[u8]
     if file_refusal(file, 0) != 0 {
         return &file[..0];
     }
-    let at = file.len() - back_of(record_of(file));
+    let at = start_of(file);
     &file[..at]
 }
 
 // ---- save
 
-// Writes the image at the front of out: the table right behind the memory words, then the trailer.
+// Writes the image of the M words mem and the 9 N words table at the front of out: the table right behind
+// the memory words, then the trailer.
 fn write_image(r: Record, mem: &[u32], table: &[u32], out: &mut [u8])
-    requires { ⌜ (r .m ≤ length (now mem)) × (9 * r .n ≤ length (now table)) × (backOf r ≤ length (now out)) × (backOf r < 2 ^ 32) ⌝ }
-    ensures { λ _. ⌜ now (out .exit) ≡ imageBytes r (now (mem .entry)) (now (table .entry)) ++ drop (backOf r) (now (out .entry)) ⌝ }
+    requires { ⌜ (length (now mem) ≡ r .m) × (length (now table) ≡ tableWords (r .n)) × (backOf newest r ≤ length (now out)) × (backOf newest r < 2 ^ 32) ⌝ }
+    ensures { λ _. ⌜ now (out .exit) ≡ image newest r (now (mem .entry)) (now (table .entry)) ++ drop (backOf newest r) (now (out .entry)) ⌝ }
 {
-    let m = r.m as usize;
-    let links = Record::NODE_WORDS * (r.n as usize);
-    let at = 4 * m;
-    let end = at + 4 * links;
-    write_words(&mem[..m], out);
-    write_words(&table[..links], &mut out[at..]);
+    let at = 4 * mem.len();
+    let end = at + 4 * table.len();
+    write_words(mem, out);
+    write_words(table, &mut out[at..]);
     trailer::write_trailer(r, &mut out[end..]);
 }
 
-pub fn save(r: Record, mem: &[u32], table: &[u32], out: &mut [u8]) -> u32
-    ensures { λ f.
-        ⌜ (f ≡ saveOf r (now (mem .entry)) (now (table .entry)) (now (out .entry)))
-        × (now (out .exit) ≡ outAfterSave r (now (mem .entry)) (now (table .entry)) (now (out .entry))) ⌝ }
+// Save's refusal, 0 for none; and the bounds of save's arguments, here where the types give them.
+fn save_refusal(r: Record, mem: &[u32], table: &[u32], out: &[u8]) -> u32
+    ensures { λ a. ⌜ SaveDecided r (now (mem .entry)) (now (table .entry)) (now (out .entry)) a ⌝ }
 {
-    if r.has_bad_sizes(mem, table) {
-        return 10;
+    let short = out.len() < back_of(NEWEST, r);
+    word::choose(r.has_bad_sizes(mem, table), 10, word::choose(short, 9, 0))
+}
+
+pub fn save(r: Record, mem: &[u32], table: &[u32], out: &mut [u8]) -> u32
+    ensures { λ a. ⌜ SavePromise r (now (mem .entry)) (now (table .entry)) (now (out .entry)) a (now (out .exit)) ⌝ }
+{
+    let answer = save_refusal(r, mem, table, out);
+    if answer != 0 {
+        return answer;
     }
-    if out.len() < back_of(r) {
-        return 9;
-    }
-    write_image(r, mem, table, out);
-    0
+    let m = r.m as usize;
+    let links = table_words(r.n);
+    write_image(r, &mem[..m], &table[..links], out);
+    answer
 }
 
 // ---- check
@@ -129,7 +133,7 @@ fn first_bad_address(mem: &[u32], m: u32, k: u32) -> u32
 {
     let mut a: u32 = 0;
     while a < k {
-        if !qins::is_instruction(step::lent::word_at(mem, m, a)) {
+        if !machine::is_instruction(step::lent::word_at(mem, m, a)) {
             return a;
         }
         a += 1;

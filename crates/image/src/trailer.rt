@@ -1,69 +1,91 @@
 // The trailer: the sizes and registers, and the last four bytes.
 ghost use mathlib.Core.Path.{_≡_};
 ghost use mathlib.Core.List.{_++_};
-ghost use Prim.Native.Nat.{_^_, _<_, _≤_};
+ghost use Prim.Native.Nat.{_*_, _^_, _<_, _≤_};
 ghost use lib.ListN.{length, drop};
-ghost use Rattle.image.specs.Format.{trailerLength, trailerBytes, recordIn, stateIn, hasMagic, lastBytes};
-ghost use Rattle.image.specs.Load.{backOf, inRange, fileRefusal};
+ghost use Rattle.image.specs.Format.{bytesOf, newest, wordCount, trailerLength, backOf, trailerWords, trailerBytes, recordIn, trailerIn, stateIn};
+ghost use Rattle.image.specs.Load.{fileRefusal, startIn};
+use crate::kinds::Kind;
+use crate::kinds::LAST;
+use crate::kinds::NEWEST;
+use crate::kinds::has_last;
+use crate::kinds::kind_of;
+use crate::kinds::last_bytes;
+use crate::words::first_bytes;
 use crate::words::read_word;
 use crate::words::read_words;
 use crate::words::rest_of;
 use crate::words::write_words;
 use machine::Record;
+use step::sizes::is_in_range;
+use step::table::table_words;
 
-// The bytes of a trailer, and the most of a file.
-const LENGTH: usize = 92;
-
+// The most bytes of a file.
 const MAX_FILE: usize = 65536;
 
-// From the file's end to the first memory byte.
-pub(crate) fn back_of(r: Record) -> usize
-    ensures { λ b. ⌜ b ≡ backOf r ⌝ }
+// Where a trailer's words stand: back, M, K, N, the registers, qifv, qifw, and those that a kind has more.
+const BACK: usize = 0;
+
+const M: usize = 1;
+
+const K: usize = 2;
+
+const N: usize = 3;
+
+const REGS: usize = 4;
+
+const QIFV: usize = REGS + 16;
+
+const QIFW: usize = QIFV + 1;
+
+const MORE: usize = QIFW + 1;
+
+// ---- lengths
+
+// The words of a trailer before its last bytes.
+fn word_count(kind: Kind) -> usize
+    ensures { λ n. ⌜ n ≡ wordCount kind ⌝ }
 {
-    4 * (r.m as usize) + 36 * (r.n as usize) + LENGTH
+    MORE + kind.more as usize
 }
 
-// M, K and N are in range.
-fn is_in_range(r: Record) -> bool
-    ensures { λ b. ⌜ b ≡ inRange r ⌝ }
+// The bytes of a trailer.
+fn length_of(kind: Kind) -> usize
+    ensures { λ n. ⌜ n ≡ trailerLength kind ⌝ }
 {
-    let sizes = word::both(r.m <= Record::MAX_WORDS, r.n <= Record::MAX_NODES);
-    word::both(0 < r.k, word::both(r.k <= r.m, sizes))
+    4 * word_count(kind) + LAST
+}
+
+// From the file's end to the first memory byte.
+pub(crate) fn back_of(kind: Kind, r: Record) -> usize
+    ensures { λ b. ⌜ b ≡ backOf kind r ⌝ }
+{
+    4 * (r.m as usize) + 4 * table_words(r.n) + length_of(kind)
 }
 
 // ---- reading
 
-// The last n bytes, all where there are fewer.
-fn last_bytes(s: &[u8], n: usize) -> &[u8]
-    ensures { λ r. ⌜ now r ≡ lastBytes n (now (s .entry)) ⌝ }
+// The bytes of the words of the trailer that ends the file.
+fn trailer_in(file: &[u8]) -> &[u8]
+    ensures { λ t. ⌜ now t ≡ trailerIn (now (file .entry)) ⌝ }
 {
-    if s.len() < n {
-        return s;
-    }
-    let at = s.len() - n;
-    &s[at..]
+    let kind = kind_of(file);
+    first_bytes(last_bytes(file, length_of(kind)), 4 * word_count(kind))
 }
 
-// Whether the last four bytes are those of an image.
-fn has_magic(file: &[u8]) -> bool
-    ensures { λ r. ⌜ r ≡ hasMagic (now (file .entry)) ⌝ }
-{
-    check::same(last_bytes(file, 4), b"QRM1")
-}
-
-// The record of the trailer t.
+// The record of the trailer's words t; a word that t lacks is 0.
 fn read_record(t: &[u8]) -> Record
     ensures { λ r. ⌜ r ≡ recordIn (now (t .entry)) ⌝ }
 {
     let mut regs = [0u32; 16];
-    read_words(rest_of(t, 16), &mut regs);
+    read_words(rest_of(t, 4 * REGS), &mut regs);
     Record {
         regs,
-        qifv: read_word(t, 20),
-        qifw: read_word(t, 21),
-        k: read_word(t, 2),
-        m: read_word(t, 1),
-        n: read_word(t, 3),
+        qifv: read_word(t, QIFV),
+        qifw: read_word(t, QIFW),
+        k: read_word(t, K),
+        m: read_word(t, M),
+        n: read_word(t, N),
     }
 }
 
@@ -71,33 +93,57 @@ fn read_record(t: &[u8]) -> Record
 pub(crate) fn record_of(file: &[u8]) -> Record
     ensures { λ r. ⌜ r ≡ stateIn (now (file .entry)) ⌝ }
 {
-    read_record(last_bytes(file, LENGTH))
+    read_record(trailer_in(file))
+}
+
+// Where the first memory byte stands: back before the file's end.
+pub(crate) fn start_of(file: &[u8]) -> usize
+    ensures { λ a. ⌜ a ≡ startIn (now (file .entry)) ⌝ }
+{
+    let back = back_of(kind_of(file), record_of(file));
+    if file.len() < back {
+        return 0;
+    }
+    file.len() - back
 }
 
 // Refusals 1 to 5, in order, else rest.
 pub(crate) fn file_refusal(file: &[u8], rest: u32) -> u32
     ensures { λ r. ⌜ r ≡ fileRefusal (now (file .entry)) rest ⌝ }
 {
-    let r = record_of(file);
-    let back = back_of(r);
-    let stored = read_word(last_bytes(file, LENGTH), 0) as usize;
-    let fits = word::both(LENGTH <= file.len(), file.len() <= MAX_FILE);
+    let kind = kind_of(file);
+    let t = trailer_in(file);
+    let r = read_record(t);
+    let back = back_of(kind, r);
+    let stored = read_word(t, BACK) as usize;
+    let fits = word::both(length_of(kind) <= file.len(), file.len() <= MAX_FILE);
     let from_5 = word::choose(file.len() < back, 5, rest);
     let from_4 = word::choose(!(stored == back), 4, from_5);
-    let from_3 = word::choose(!is_in_range(r), 3, from_4);
-    word::choose(!fits, 1, word::choose(!has_magic(file), 2, from_3))
+    let from_3 = word::choose(!is_in_range(r.status()), 3, from_4);
+    let from_2 = word::choose(!has_last(file, kind), 2, from_3);
+    word::choose(!fits, 1, from_2)
 }
 
 // ---- writing
 
-// Writes the trailer at the front of out: each part into what is left of out behind the last.
-pub(crate) fn write_trailer(r: Record, out: &mut [u8])
-    requires { ⌜ (trailerLength ≤ length (now out)) × (backOf r < 2 ^ 32) ⌝ }
-    ensures { λ _. ⌜ now (out .exit) ≡ trailerBytes r ++ drop trailerLength (now (out .entry)) ⌝ }
+// Writes the trailer's words at the front of out: each part into what is left of out behind the last.
+fn write_fields(r: Record, out: &mut [u8])
+    requires { ⌜ (4 * wordCount newest ≤ length (now out)) × (backOf newest r < 2 ^ 32) ⌝ }
+    ensures { λ _. ⌜ now (out .exit) ≡ bytesOf (trailerWords newest r) ++ drop (4 * length (trailerWords newest r)) (now (out .entry)) ⌝ }
 {
     let regs = r.regs;
-    write_words(&[back_of(r) as u32, r.m, r.k, r.n], out);
-    write_words(&regs, &mut out[16..]);
-    write_words(&[r.qifv, r.qifw], &mut out[80..]);
-    bytes::copy(b"QRM1", &mut out[88..]);
+    write_words(&[back_of(NEWEST, r) as u32, r.m, r.k, r.n], out);
+    write_words(&regs, &mut out[4 * REGS..]);
+    write_words(&[r.qifv, r.qifw], &mut out[4 * QIFV..]);
+}
+
+// And the last bytes behind them.
+pub(crate) fn write_trailer(r: Record, out: &mut [u8])
+    requires { ⌜ (trailerLength newest ≤ length (now out)) × (backOf newest r < 2 ^ 32) ⌝ }
+    ensures { λ _. ⌜ now (out .exit) ≡ trailerBytes newest r ++ drop (trailerLength newest) (now (out .entry)) ⌝ }
+{
+    let last = NEWEST.last;
+    let end = 4 * word_count(NEWEST);
+    write_fields(r, out);
+    bytes::copy(&last, &mut out[end..]);
 }

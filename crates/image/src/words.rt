@@ -32,6 +32,16 @@ pub(crate) fn rest_of(s: &[u8], a: usize) -> &[u8]
     &s[a..]
 }
 
+// The first n bytes, all where there are fewer.
+pub(crate) fn first_bytes(s: &[u8], n: usize) -> &[u8]
+    ensures { λ r. ⌜ now r ≡ take n (now (s .entry)) ⌝ }
+{
+    if s.len() < n {
+        return s;
+    }
+    &s[..n]
+}
+
 // Word i, with 0 for a missing byte.
 pub(crate) fn read_word(s: &[u8], i: usize) -> u32
     requires { ⌜ i < 2 ^ 61 ⌝ }

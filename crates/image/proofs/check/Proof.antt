@@ -12,12 +12,26 @@ check-spec =
     tie.close
     (tie.spec
     (λ c κs. search needs)
-    (λ c. let g = c .before .before .before .before .args in check-sizes (g .r) (now (g .mem)) (now (g .table)) (sym (c .before .has-bad-sizes .ensures) ∙ c .if1 .taken))
+    (λ c.
+    let g = c .before .before .before .before .args in
+    check-sizes (g .r) (now (g .mem)) (now (g .table)) (sym (c .before .has-bad-sizes .ensures) ∙ c .if1 .taken))
     (λ c κs. search needs)
-    (λ c. let g = c .before .before .before .before .before .before .before .args in let a = c .before .before .first-bad-address in
-    check-code (g .r) (now (g .mem)) (now (g .table)) (sym (c .before .before .before .before .has-bad-sizes .ensures) ∙ c .before .before .before .if1 .left) (a .result) (a .ensures) (omega arith))
-    (λ c κs. let g = c .before .before .before .before .before .before .before .args in omega (arith, sized (g .r) (now (g .mem)) (now (g .table)) (sym (c .before .before .before .before .has-bad-sizes .ensures) ∙ c .before .before .before .if1 .left) .nodes))
-    (λ c. let g = c .before .before .before .before .before .before .before .before .before .before .args in let a = c .before .before .before .before .before .first-bad-address in let v = c .before .before .first-unpaired in
-    check-node (g .r) (now (g .mem)) (now (g .table)) (sym (c .before .before .before .before .before .before .before .has-bad-sizes .ensures) ∙ c .before .before .before .before .before .before .if1 .left) (a .result) (a .ensures) (omega arith) (v .result) (v .ensures) (omega arith))
-    (λ c. let g = c .before .before .before .before .before .before .before .before .before .before .args in let a = c .before .before .before .before .before .first-bad-address in let v = c .before .before .first-unpaired in
-    check-good (g .r) (now (g .mem)) (now (g .table)) (sym (c .before .before .before .before .before .before .before .has-bad-sizes .ensures) ∙ c .before .before .before .before .before .before .if1 .left) (a .result) (a .ensures) (omega arith) (v .result) (v .ensures) (omega arith)))
+    (λ c.
+    let i = c .before .before .before in
+    let a = c .before .before .first-bad-address in
+    let g = i .before .before .before .before .args in
+    check-code (g .r) (now (g .mem)) (now (g .table)) (sym (i .before .has-bad-sizes .ensures) ∙ i .if1 .left) (a .result) (a .ensures) (omega arith))
+    (λ c κs.
+    let i = c .before .before .before in
+    let g = i .before .before .before .before .args in
+    omega (arith, sized (g .r) (now (g .mem)) (now (g .table)) (sym (i .before .has-bad-sizes .ensures) ∙ i .if1 .left) .nodes))
+    (λ c.
+    let v = c .before .before in
+    let a = v .before .before .before in
+    let g = a .before .before .before .before .before .args in
+    check-node (g .r) (now (g .mem)) (now (g .table)) (sym (a .before .before .has-bad-sizes .ensures) ∙ a .before .if1 .left) (a .first-bad-address .result) (a .first-bad-address .ensures) (omega arith) (v .first-unpaired .result) (v .first-unpaired .ensures) (omega arith))
+    (λ c.
+    let v = c .before .before in
+    let a = v .before .before .before in
+    let g = a .before .before .before .before .before .args in
+    check-good (g .r) (now (g .mem)) (now (g .table)) (sym (a .before .before .has-bad-sizes .ensures) ∙ a .before .if1 .left) (a .first-bad-address .result) (a .first-bad-address .ensures) (omega arith) (v .first-unpaired .result) (v .first-unpaired .ensures) (omega arith)))

@@ -12,12 +12,14 @@ pub fill-spec : {M : Type 1} → statement M
 fill-spec =
     tie.close
     (tie.spec
-    (λ c. search needs) (λ c. search needs) (λ c. search needs) (λ c. search needs) (λ c. search needs)
-    (λ c. sym (length-take-le _ _ (c .before .before .before .before .before .before .pre .0)))
+    (λ c. search needs) (λ c. search needs)
+    (λ c. sym (length-take-le _ _ (c .before .before .before .before .pre .0)))
     (λ c κs. search needs) (λ c. search needs) (λ c. search needs) (λ c. search needs) (λ c. search needs)
-    (λ c. sym (length-take-le _ _ (c .before .before .before .before .before .before .before .before .before .before .before .pre .1)))
+    (λ c. let r = c .before .before .before .before in sym (length-take-le _ _ (r .before .before .before .before .before .pre .1)))
     (λ c κs. search needs) (λ c. search needs) (λ c. search needs)
-    (λ c. let g = c .before .before .before .before .before .before .before .before .before .before .before .before .before .before .args in let p = c .before .before .before .before .before .before .before .before .before .before .before .before .before .before .pre in (
-      refilled (g .r .m) _ _ (now (g .mem)) _ (p .0) refl (c .before .before .before .before .before .before .before .read-words .ensures),
-      refilled (9 * g .r .n) _ _ (now (g .table)) _ (p .1) (all-left (4 * g .r .m) (now (g .image))) (c .before .before .read-words2 .ensures),
+    (λ c.
+    let r = c .before .before .before .before .before .before .before in
+    let s = r .before .before .before .before .before in (
+      refilled (s .args .m) _ _ (now (s .args .mem)) _ (s .pre .0) refl (r .read-words .ensures),
+      refilled (s .args .n) _ _ (now (s .args .table)) _ (s .pre .1) (all-left (4 * s .args .m) (now (s .args .image))) (c .before .before .read-words2 .ensures),
     )))

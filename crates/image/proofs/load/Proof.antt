@@ -1,4 +1,3 @@
-use mathlib.Core.Path.{_≡_, sym, _∙_}
 use denote.Ref.{now}
 use native.Mathlib.Omega.{arith}
 use Rattle.image.proofs.Accepted.{load-accepted}
@@ -13,16 +12,25 @@ load-spec =
     tie.close
     (tie.spec
     (λ c κs. search needs) (λ c κs. search needs) (λ c. search needs) (λ c. search needs)
-    (λ c. let g = c .before .before .before .before .before .before .before .before .args in let f = c .before .before .load-refusal in
-    load-refuses (now (g .file)) (now (g .mem)) (now (g .table)) (f .result) (c .zero .result) (f .ensures) (λ e. omega arith) (c .zero .ensures))
-    (λ c κs. search needs) (λ c κs. search needs)
-    (λ c. let g = c .before .before .before .before .before .before .before .before .before .args in let f = c .before .before .before .load-refusal in let n : f .result ≡ 0 = omega arith in
-    let a = load-accepted (now (g .file)) (now (g .mem)) (now (g .table)) (c .before .record-of .result) (sym (f .ensures) ∙ n) (c .before .record-of .ensures) in
-    omega (arith, a .within, c .back-of .ensures))
-    (λ c. search needs) (λ c. search needs) (λ c. search needs)
-    (λ c κs. let g = c .before .before .before .before .before .before .before .before .before .before .before .before .args in let f = c .before .before .before .before .before .before .load-refusal in let n : f .result ≡ 0 = omega arith in
-    let a = load-accepted (now (g .file)) (now (g .mem)) (now (g .table)) (c .before .before .before .before .record-of .result) (sym (f .ensures) ∙ n) (c .before .before .before .before .record-of .ensures) in
-    (a .memory, a .links, simp left-long (omega (arith, a .within, c .before .before .before .back-of .ensures))))
+    (λ c.
+    let f = c .before .before in
+    let g = f .before .before .before .before .before .before .args in
+    load-refuses (now (g .file)) (now (g .mem)) (now (g .table)) (f .load-refusal .ensures) (λ e. omega arith) (c .zero .ensures))
+    (λ c κs. search needs) (λ c κs. search needs) (λ c. search needs) (λ c. search needs) (λ c. search needs) (λ c. search needs) (λ c κs. search needs)
+    (λ c κs.
+    let w = c .before .before in
+    let b = w .before .before .before in
+    let r = b .before in
+    let f = r .before .before in
+    let g = f .before .before .before .before .before .before .args in
+    let a = load-accepted (now (g .file)) (now (g .mem)) (now (g .table)) (f .load-refusal .ensures) (r .before .if1 .left) (r .record-of .ensures) in
+    (a .memory, rw (w .table-words .ensures) (a .links), simp left-long (omega (arith, a .within, b .start-of .ensures))))
     (λ c. search needs) (λ c. search needs)
-    (λ c. let g = c .before .before .before .before .before .before .before .before .before .before .before .before .before .before .before .before .before .args in let w = c .before .before .before .before .fill .ensures in let f = c .before .before .before .before .before .before .before .before .before .before .before .load-refusal in let n : f .result ≡ 0 = omega arith in
-    load-accepts (now (g .file)) (now (g .mem)) (now (g .table)) (c .before .before .before .before .before .before .before .before .before .record-of .result) (c .before .before .before .before .before .before .before .before .back-of .result) (f .result) _ _ n (sym (f .ensures) ∙ n) (c .before .before .before .before .before .before .before .before .before .record-of .ensures) (c .before .before .before .before .before .before .before .before .back-of .ensures) (w .0) (w .1)))
+    (λ c.
+    let d = c .before .before .before .before in
+    let w = d .before .before .before in
+    let b = w .before .before .before in
+    let r = b .before in
+    let f = r .before .before in
+    let g = f .before .before .before .before .before .before .args in
+    load-accepts (now (g .file)) (now (g .mem)) (now (g .table)) (f .load-refusal .ensures) (r .before .if1 .left) (r .record-of .ensures) (b .start-of .ensures) (w .table-words .ensures) (d .fill .ensures .0) (d .fill .ensures .1)))

@@ -6,6 +6,7 @@ pub load-refusal-spec : {M : Type 1} → statement M
 load-refusal-spec =
     tie.close
     (tie.spec
-    (λ c κs. search needs) (λ c. search needs) (λ c. search needs) (λ c. search needs) (λ c κs. search needs)
-    (λ c κs. search needs) (λ c κs. search needs)
-    (λ c. simp (c .file-refusal .ensures, c .before .choose .ensures, c .before .before .both .ensures, c .before .before .before .before .before .record-of .ensures)))
+    (λ c κs. search needs) (λ c κs. search needs) (λ c κs. search needs) (λ c κs. search needs) (λ c κs. search needs)
+    (λ c.
+    let s = c .before .before .before in
+    simp (c .file-refusal .ensures, c .before .choose .ensures, c .before .before .is-enough .ensures, s .status .ensures, s .before .record-of .ensures)))

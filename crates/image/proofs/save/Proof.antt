@@ -1,8 +1,8 @@
 use mathlib.Core.Path.{sym, _∙_}
-use denote.Ref.{now}
 use native.Mathlib.Omega.{arith}
-use Rattle.image.proofs.Accepted.{sized}
-use Rattle.image.proofs.Answers.{save-sizes, save-short, save-writes}
+use lib.Seq.{length-take-le}
+use Rattle.image.proofs.Accepted.{save-accepted}
+use Rattle.image.proofs.Answers.{save-refuses, save-writes}
 use borrow.Author.Needs.{needs}
 use Rattle.image.proofs.save.Statement.{statement}
 use Rattle.image.proofs.save.Tie as tie
@@ -11,13 +11,28 @@ pub save-spec : {M : Type 1} → statement M
 save-spec =
     tie.close
     (tie.spec
-    (λ c κs. search needs)
-    (λ c. let g = c .before .before .before .before .before .args in save-sizes (g .r) (now (g .mem)) (now (g .table)) (now (g .out)) (sym (c .before .has-bad-sizes .ensures) ∙ c .if1 .taken))
-    (λ c κs. search needs)
-    (λ c. let g = c .before .before .before .before .before .before .before .args in let e = c .before .back-of .ensures in
-    save-short (g .r) (now (g .mem)) (now (g .table)) (now (g .out)) (sym (c .before .before .before .has-bad-sizes .ensures) ∙ c .before .before .if1 .left) (omega arith))
-    (λ c κs. let g = c .before .before .before .before .before .before .before .before .args in let z = sized (g .r) (now (g .mem)) (now (g .table)) (sym (c .before .before .before .before .has-bad-sizes .ensures) ∙ c .before .before .before .if1 .left) in
-    (z .memory, z .links, omega (arith, c .before .before .back-of .ensures), omega (arith, z .words, z .nodes)))
+    (λ c κs. search needs) (λ c. search needs)
+    (λ c. save-refuses (c .before .save-refusal .ensures) (c .if1 .taken))
+    (λ c. search needs) (λ c κs. search needs)
+    (λ c.
+    let i = c .before .before .before in
+    sym (length-take-le _ _ (save-accepted (i .before .save-refusal .ensures) (i .if1 .left) .sizes .memory)))
+    (λ c.
+    let w = c .before .before in
+    let i = w .before .before in
+    sym (length-take-le _ _ (rw (w .table-words .ensures) (save-accepted (i .before .save-refusal .ensures) (i .if1 .left) .sizes .links))))
+    (λ c κs.
+    let w = c .before .before .before in
+    let i = w .before .before in
+    let a = save-accepted (i .before .save-refusal .ensures) (i .if1 .left) in
+    let z = a .sizes in (
+      length-take-le _ _ (z .memory),
+      length-take-le _ _ (rw (w .table-words .ensures) (z .links)) ∙ w .table-words .ensures,
+      a .room,
+      omega (arith, z .words, z .nodes),
+    ))
     (λ c. search needs)
-    (λ c. let g = c .before .before .before .before .before .before .before .before .before .before .before .args in let e = c .before .before .before .before .before .back-of .ensures in
-    save-writes (g .r) (now (g .mem)) (now (g .table)) (now (g .out)) (sym (c .before .before .before .before .before .before .before .has-bad-sizes .ensures) ∙ c .before .before .before .before .before .before .if1 .left) _ (omega arith) (c .before .before .write-image .ensures)))
+    (λ c.
+    let w = c .before .before .before .before .before .before in
+    let i = w .before .before in
+    save-writes (i .before .save-refusal .ensures) (i .if1 .left) (w .table-words .ensures) (c .before .before .write-image .ensures)))

@@ -1,5 +1,6 @@
 use mathlib.Core.Path.{sym, _∙_}
-use Prim.Native.Nat.{_+_, _-_, _*_}
+use Prim.Native.Nat.{_+_, _-_}
+use Rattle.step.specs.Table.{tableWords}
 use denote.Ref.{now}
 use native.Mathlib.Omega.{arith}
 use lib.ListN.{take}
@@ -10,7 +11,7 @@ use Rattle.image.proofs.links.first_unpaired.Statement.{statement}
 use Rattle.image.proofs.links.first_unpaired.Tie as tie
 
 abbrev Inv-loop : tie.InvT-loop
-Inv-loop table n v₀ v = Searching (unpaired (take (9 * n) table) n) 1 n v
+Inv-loop table n v₀ v = Searching (unpaired (take (tableWords n) table) n) 1 n v
 
 abbrev μ-loop : tie.MeasureT-loop
 μ-loop table n v₀ v = 1 + n - v
@@ -22,9 +23,9 @@ first-unpaired-spec =
     (λ c. search-starts _ 1 _)
     (λ c κs. search needs)
     (λ c. let g = c .before .before .before .before .before .args in let l = c .before .before .before .loop in
-    search-hits (unpaired (take (9 * g .n) (now (g .table))) (g .n)) 1 (g .n) (l .v) (l .inv) (omega arith) (sym (c .before .is-unpaired .ensures) ∙ c .if1 .taken))
+    search-hits (unpaired (take (tableWords (g .n)) (now (g .table))) (g .n)) 1 (g .n) (l .v) (l .inv) (omega arith) (sym (c .before .is-unpaired .ensures) ∙ c .if1 .taken))
     (λ c. search needs) (λ c. search needs)
     (λ c. let g = c .before .before .before .before .before .args in let l = c .before .before .before .loop in
-    search-goes-on (unpaired (take (9 * g .n) (now (g .table))) (g .n)) 1 (g .n) (l .v) (l .inv) (omega arith) (sym (c .before .is-unpaired .ensures) ∙ c .if1 .left))
+    search-goes-on (unpaired (take (tableWords (g .n)) (now (g .table))) (g .n)) 1 (g .n) (l .v) (l .inv) (omega arith) (sym (c .before .is-unpaired .ensures) ∙ c .if1 .left))
     (λ c. let g = c .before .before .before .args in let l = c .before .loop in
-    search-ends (unpaired (take (9 * g .n) (now (g .table))) (g .n)) 1 (g .n) (l .v) (l .inv) (omega arith)))
+    search-ends (unpaired (take (tableWords (g .n)) (now (g .table))) (g .n)) 1 (g .n) (l .v) (l .inv) (omega arith)))

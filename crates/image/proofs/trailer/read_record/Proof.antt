@@ -7,6 +7,8 @@ unfolding Rattle.image.specs.Format.recordIn
 read-record-spec =
     tie.close
     (tie.spec
-    (λ c κs. search needs) (λ c. search needs) (λ c κs. search needs) (λ c κs. search needs) (λ c κs. search needs)
-    (λ c κs. search needs) (λ c κs. search needs) (λ c κs. search needs)
-    (λ c. simp (c .read-word5 .ensures, c .before .read-word4 .ensures, c .before .before .read-word3 .ensures, c .before .before .before .read-word2 .ensures, c .before .before .before .before .read-word .ensures, c .before .before .before .before .before .before .read-words .ensures, c .before .before .before .before .before .before .before .before .rest-of .ensures)))
+    (λ c. search needs) (λ c κs. search needs) (λ c. search needs) (λ c κs. search needs) (λ c κs. search needs) (λ c κs. search needs) (λ c κs. search needs) (λ c κs. search needs) (λ c κs. search needs)
+    (λ c.
+    let w = c .before .before .before .before in
+    let r = w .before .before in
+    simp (c .read-word5 .ensures, c .before .read-word4 .ensures, c .before .before .read-word3 .ensures, c .before .before .before .read-word2 .ensures, w .read-word .ensures, r .read-words .ensures, r .before .before .rest-of .ensures)))

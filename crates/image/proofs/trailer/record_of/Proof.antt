@@ -7,4 +7,4 @@ record-of-spec =
     tie.close
     (tie.spec
     (λ c κs. search needs) (λ c κs. search needs)
-    (λ c. simp (c .read-record .ensures, c .before .last-bytes .ensures)))
+    (λ c. simp (c .read-record .ensures, c .before .trailer-in .ensures)))

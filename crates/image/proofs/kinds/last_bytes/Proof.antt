@@ -4,8 +4,8 @@ use denote.Ref.{now}
 use native.Mathlib.Omega.{arith}
 use Rattle.image.proofs.Parts.{all-left, last-all}
 use borrow.Author.Needs.{needs}
-use Rattle.image.proofs.trailer.last_bytes.Statement.{statement}
-use Rattle.image.proofs.trailer.last_bytes.Tie as tie
+use Rattle.image.proofs.kinds.last_bytes.Statement.{statement}
+use Rattle.image.proofs.kinds.last_bytes.Tie as tie
 
 pub last-bytes-spec : {M : Type 1} → statement M
 last-bytes-spec =
