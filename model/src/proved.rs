@@ -234,19 +234,19 @@ mod bench_calls {
         ) -> u32;
         fn bench_forward_batch(
             b: *mut Bench,
+            n: u32,
             mem: *mut u32,
             mem_len: usize,
             table: *const u32,
             table_len: usize,
-            n: u32,
         ) -> RawCranked;
         fn bench_back_batch(
             b: *mut Bench,
+            n: u32,
             mem: *mut u32,
             mem_len: usize,
             table: *const u32,
             table_len: usize,
-            n: u32,
         ) -> RawCranked;
     }
 
@@ -283,11 +283,11 @@ mod bench_calls {
             let cranked = unsafe {
                 bench_forward_batch(
                     self,
+                    n,
                     mem.as_mut_ptr(),
                     mem.len(),
                     table.as_ptr(),
                     table.len(),
-                    n,
                 )
             };
             (cranked.turns, cranked.refusal)
@@ -299,11 +299,11 @@ mod bench_calls {
             let cranked = unsafe {
                 bench_back_batch(
                     self,
+                    n,
                     mem.as_mut_ptr(),
                     mem.len(),
                     table.as_ptr(),
                     table.len(),
-                    n,
                 )
             };
             (cranked.turns, cranked.refusal)

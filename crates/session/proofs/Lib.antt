@@ -1,5 +1,4 @@
 pub mod Form
 pub mod Rules
 pub mod Crank
-pub mod Contracts
 pub mod OnLists

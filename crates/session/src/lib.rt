@@ -1,10 +1,9 @@
 // The lesson bench: one record, lent by `&mut`, that each crank call alters for its caller. A call
 // takes it apart, makes the turn or batch by value, puts the new record back and answers.
-ghost use mathlib.Core.Path.{_≡_};
 ghost use Rattle.step.specs.declared.Direction.{Direction};
-ghost use Rattle.machine.specs.Calls.{turnOf, memoryOf};
-ghost use Rattle.machine.specs.Batch.{batchOf, batchMemory, CountOf};
-ghost use Rattle.session.specs.Bench.{benchOf};
+ghost use Rattle.machine.specs.Calls.{TurnPromise};
+ghost use Rattle.machine.specs.Batch.{BatchPromise};
+ghost use Rattle.session.specs.Bench.{turnedOn, crankedOn};
 use machine::Record;
 
 #[repr(C)]
@@ -22,10 +21,7 @@ pub struct Cranked {
 // One turn forward; the answer is its refusal, 0 for none.
 #[no_mangle]
 pub extern "C" fn bench_forward(b: &mut Bench, mem: &mut [u32], table: &[u32]) -> u32
-    ensures { λ r.
-        ⌜ (r ≡ turnOf Direction.Forward (now (b .entry) .state) (now (mem .entry)) (now (table .entry)) .refusal)
-        × (now (b .exit) ≡ benchOf (turnOf Direction.Forward (now (b .entry) .state) (now (mem .entry)) (now (table .entry)) .state))
-        × (now (mem .exit) ≡ memoryOf Direction.Forward (now (b .entry) .state) (now (mem .entry)) (now (table .entry))) ⌝ }
+    ensures { λ r. ⌜ TurnPromise Direction.Forward (now (b .entry) .state) (now (mem .entry)) (now (table .entry)) (turnedOn (now (b .exit)) r) (now (mem .exit)) ⌝ }
 {
     let r = b.state;
     let t = r.forward(mem, table);
@@ -36,10 +32,7 @@ pub extern "C" fn bench_forward(b: &mut Bench, mem: &mut [u32], table: &[u32]) -
 // One turn back.
 #[no_mangle]
 pub extern "C" fn bench_back(b: &mut Bench, mem: &mut [u32], table: &[u32]) -> u32
-    ensures { λ r.
-        ⌜ (r ≡ turnOf Direction.Back (now (b .entry) .state) (now (mem .entry)) (now (table .entry)) .refusal)
-        × (now (b .exit) ≡ benchOf (turnOf Direction.Back (now (b .entry) .state) (now (mem .entry)) (now (table .entry)) .state))
-        × (now (mem .exit) ≡ memoryOf Direction.Back (now (b .entry) .state) (now (mem .entry)) (now (table .entry))) ⌝ }
+    ensures { λ r. ⌜ TurnPromise Direction.Back (now (b .entry) .state) (now (mem .entry)) (now (table .entry)) (turnedOn (now (b .exit)) r) (now (mem .exit)) ⌝ }
 {
     let r = b.state;
     let t = r.back(mem, table);
@@ -47,19 +40,15 @@ pub extern "C" fn bench_back(b: &mut Bench, mem: &mut [u32], table: &[u32]) -> u
     t.refusal
 }
 
-// Up to n turns forward. How many, k, is free within CountOf; all else follows from it.
+// Up to n turns forward. How many, k, is free within Count; all else follows from it.
 #[no_mangle]
 pub extern "C" fn bench_forward_batch(
     b: &mut Bench,
+    n: u32,
     mem: &mut [u32],
     table: &[u32],
-    n: u32,
 ) -> Cranked
-    ensures { λ r.
-        ⌜ CountOf Direction.Forward n (now (b .entry) .state) (now (mem .entry)) (now (table .entry)) (r .turns)
-        × (r .refusal ≡ batchOf Direction.Forward n (r .turns) (now (b .entry) .state) (now (mem .entry)) (now (table .entry)) .refusal)
-        × (now (b .exit) ≡ benchOf (batchOf Direction.Forward n (r .turns) (now (b .entry) .state) (now (mem .entry)) (now (table .entry)) .state))
-        × (now (mem .exit) ≡ batchMemory Direction.Forward (r .turns) (now (b .entry) .state) (now (mem .entry)) (now (table .entry))) ⌝ }
+    ensures { λ r. ⌜ BatchPromise Direction.Forward n (now (b .entry) .state) (now (mem .entry)) (now (table .entry)) (crankedOn (now (b .exit)) r) (now (mem .exit)) ⌝ }
 {
     let r = b.state;
     let t = r.forward_batch(n, mem, table);
@@ -72,12 +61,8 @@ pub extern "C" fn bench_forward_batch(
 
 // Up to n turns back.
 #[no_mangle]
-pub extern "C" fn bench_back_batch(b: &mut Bench, mem: &mut [u32], table: &[u32], n: u32) -> Cranked
-    ensures { λ r.
-        ⌜ CountOf Direction.Back n (now (b .entry) .state) (now (mem .entry)) (now (table .entry)) (r .turns)
-        × (r .refusal ≡ batchOf Direction.Back n (r .turns) (now (b .entry) .state) (now (mem .entry)) (now (table .entry)) .refusal)
-        × (now (b .exit) ≡ benchOf (batchOf Direction.Back n (r .turns) (now (b .entry) .state) (now (mem .entry)) (now (table .entry)) .state))
-        × (now (mem .exit) ≡ batchMemory Direction.Back (r .turns) (now (b .entry) .state) (now (mem .entry)) (now (table .entry))) ⌝ }
+pub extern "C" fn bench_back_batch(b: &mut Bench, n: u32, mem: &mut [u32], table: &[u32]) -> Cranked
+    ensures { λ r. ⌜ BatchPromise Direction.Back n (now (b .entry) .state) (now (mem .entry)) (now (table .entry)) (crankedOn (now (b .exit)) r) (now (mem .exit)) ⌝ }
 {
     let r = b.state;
     let t = r.back_batch(n, mem, table);

@@ -1,9 +1,8 @@
 -- `session::bench_back` meets its contract: Crank's walk, at `Record::back`. Assumes nothing.
 use Rattle.step.specs.declared.Direction.the-variants.{Back}
-use Rattle.machine.proofs.Record.back.Symbol as g-def
+use Rattle.machine.specs.Calls.{TurnPromise}
 use Rattle.machine.proofs.Record.back.Met as g-thm
 use Rattle.session.proofs.Form.{turn}
-use Rattle.session.proofs.Contracts.{Turns, BenchTurns, bench-turns}
 use Rattle.session.proofs.Crank.{crank-spec}
 use Rattle.session.proofs.bench_back.Key as key
 use Rattle.session.proofs.bench_back.Statement as stated
@@ -12,5 +11,4 @@ use Rattle.session.proofs.bench_back.Code as code
 pub bench-back-spec : {M : Type 1} → stated.statement M
 unfolding code.routine
 bench-back-spec 𝓤 H 𝓜 𝓖 𝓡 =
-    crank-spec turn g-def.name (Turns Back) (BenchTurns Back) (bench-turns Back) 𝓤 H 𝓜 𝓖 𝓡 code.env key.name (code.unfolded 𝓤 H 𝓜 𝓡)
-    g-def.routine code.calls-machine·Record·back (g-thm.met 𝓤 H 𝓜 𝓖 𝓡)
+    crank-spec turn _ (λ n. TurnPromise Back) 𝓤 H 𝓜 𝓖 𝓡 code.env key.name (code.unfolded 𝓤 H 𝓜 𝓡) (g-thm.met 𝓤 H 𝓜 𝓖 𝓡)

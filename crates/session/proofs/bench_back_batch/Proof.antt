@@ -1,9 +1,8 @@
 -- `session::bench_back_batch` meets its contract: Crank's walk, at `Record::back_batch`. Assumes nothing.
 use Rattle.step.specs.declared.Direction.the-variants.{Back}
-use Rattle.machine.proofs.Record.back_batch.Symbol as g-def
+use Rattle.machine.specs.Batch.{BatchPromise}
 use Rattle.machine.proofs.Record.back_batch.Met as g-thm
 use Rattle.session.proofs.Form.{batch}
-use Rattle.session.proofs.Contracts.{Batches, BenchBatches, bench-batches}
 use Rattle.session.proofs.Crank.{crank-spec}
 use Rattle.session.proofs.bench_back_batch.Key as key
 use Rattle.session.proofs.bench_back_batch.Statement as stated
@@ -12,5 +11,4 @@ use Rattle.session.proofs.bench_back_batch.Code as code
 pub bench-back-batch-spec : {M : Type 1} → stated.statement M
 unfolding code.routine
 bench-back-batch-spec 𝓤 H 𝓜 𝓖 𝓡 =
-    crank-spec batch g-def.name (Batches Back) (BenchBatches Back) (bench-batches Back) 𝓤 H 𝓜 𝓖 𝓡 code.env key.name (code.unfolded 𝓤 H 𝓜 𝓡)
-    g-def.routine code.calls-machine·Record·back-batch (g-thm.met 𝓤 H 𝓜 𝓖 𝓡)
+    crank-spec batch _ (BatchPromise Back) 𝓤 H 𝓜 𝓖 𝓡 code.env key.name (code.unfolded 𝓤 H 𝓜 𝓡) (g-thm.met 𝓤 H 𝓜 𝓖 𝓡)

@@ -1,9 +1,8 @@
 -- `session::bench_forward` meets its contract: Crank's walk, at `Record::forward`. Assumes nothing.
 use Rattle.step.specs.declared.Direction.the-variants.{Forward}
-use Rattle.machine.proofs.Record.forward.Symbol as g-def
+use Rattle.machine.specs.Calls.{TurnPromise}
 use Rattle.machine.proofs.Record.forward.Met as g-thm
 use Rattle.session.proofs.Form.{turn}
-use Rattle.session.proofs.Contracts.{Turns, BenchTurns, bench-turns}
 use Rattle.session.proofs.Crank.{crank-spec}
 use Rattle.session.proofs.bench_forward.Key as key
 use Rattle.session.proofs.bench_forward.Statement as stated
@@ -12,5 +11,4 @@ use Rattle.session.proofs.bench_forward.Code as code
 pub bench-forward-spec : {M : Type 1} → stated.statement M
 unfolding code.routine
 bench-forward-spec 𝓤 H 𝓜 𝓖 𝓡 =
-    crank-spec turn g-def.name (Turns Forward) (BenchTurns Forward) (bench-turns Forward) 𝓤 H 𝓜 𝓖 𝓡 code.env key.name (code.unfolded 𝓤 H 𝓜 𝓡)
-    g-def.routine code.calls-machine·Record·forward (g-thm.met 𝓤 H 𝓜 𝓖 𝓡)
+    crank-spec turn _ (λ n. TurnPromise Forward) 𝓤 H 𝓜 𝓖 𝓡 code.env key.name (code.unfolded 𝓤 H 𝓜 𝓡) (g-thm.met 𝓤 H 𝓜 𝓖 𝓡)
