@@ -1,14 +1,13 @@
 // The calls for other programs: C functions over the proved ones, nothing of their own.
 ghost use mathlib.Core.Path.{_≡_};
 ghost use Rattle.step.specs.declared.Direction.{Direction};
-ghost use Rattle.machine.specs.Calls.{turnOf, memoryOf};
-ghost use Rattle.machine.specs.Batch.{batchOf, batchMemory, CountOf};
-ghost use mathlib.Core.Bool.{true, false};
+ghost use Rattle.machine.specs.Calls.{TurnPromise};
+ghost use Rattle.machine.specs.Batch.{BatchPromise};
 ghost use lib.ListN.{length};
 ghost use Rattle.word.specs.Word.{pick};
 ghost use Rattle.qins.specs.Decode.{isInstruction};
-ghost use Rattle.image.specs.Load.{loadOf, memAfterLoad, tableAfterLoad, prefaceOf};
-ghost use Rattle.image.specs.Save.{saveOf, outAfterSave};
+ghost use Rattle.image.specs.Load.{LoadPromise, prefaceOf};
+ghost use Rattle.image.specs.Save.{SavePromise};
 ghost use Rattle.image.specs.Check.{checkOf};
 use image::Checked;
 use image::Loaded;
@@ -21,53 +20,40 @@ use machine::Turned;
 pub extern "C" fn qins_is_instruction(w: u32) -> u32
     ensures { λ a. ⌜ a ≡ pick (isInstruction w) 1 0 ⌝ }
 {
-    word::choose(qins::is_instruction(w), 1, 0)
+    word::choose(machine::is_instruction(w), 1, 0)
 }
 
 #[no_mangle]
 pub extern "C" fn crank_forward(r: Record, mem: &mut [u32], table: &[u32]) -> Turned
-    ensures { λ a.
-        ⌜ (a ≡ turnOf Direction.Forward r (now (mem .entry)) (now (table .entry)))
-        × (now (mem .exit) ≡ memoryOf Direction.Forward r (now (mem .entry)) (now (table .entry))) ⌝ }
+    ensures { λ a. ⌜ TurnPromise Direction.Forward r (now (mem .entry)) (now (table .entry)) a (now (mem .exit)) ⌝ }
 {
     r.forward(mem, table)
 }
 
 #[no_mangle]
 pub extern "C" fn crank_back(r: Record, mem: &mut [u32], table: &[u32]) -> Turned
-    ensures { λ a.
-        ⌜ (a ≡ turnOf Direction.Back r (now (mem .entry)) (now (table .entry)))
-        × (now (mem .exit) ≡ memoryOf Direction.Back r (now (mem .entry)) (now (table .entry))) ⌝ }
+    ensures { λ a. ⌜ TurnPromise Direction.Back r (now (mem .entry)) (now (table .entry)) a (now (mem .exit)) ⌝ }
 {
     r.back(mem, table)
 }
 
 #[no_mangle]
 pub extern "C" fn crank_forward_batch(r: Record, n: u32, mem: &mut [u32], table: &[u32]) -> Batch
-    ensures { λ a.
-        ⌜ CountOf Direction.Forward n r (now (mem .entry)) (now (table .entry)) (a .turns)
-        × (a ≡ batchOf Direction.Forward n (a .turns) r (now (mem .entry)) (now (table .entry)))
-        × (now (mem .exit) ≡ batchMemory Direction.Forward (a .turns) r (now (mem .entry)) (now (table .entry))) ⌝ }
+    ensures { λ a. ⌜ BatchPromise Direction.Forward n r (now (mem .entry)) (now (table .entry)) a (now (mem .exit)) ⌝ }
 {
     r.forward_batch(n, mem, table)
 }
 
 #[no_mangle]
 pub extern "C" fn crank_back_batch(r: Record, n: u32, mem: &mut [u32], table: &[u32]) -> Batch
-    ensures { λ a.
-        ⌜ CountOf Direction.Back n r (now (mem .entry)) (now (table .entry)) (a .turns)
-        × (a ≡ batchOf Direction.Back n (a .turns) r (now (mem .entry)) (now (table .entry)))
-        × (now (mem .exit) ≡ batchMemory Direction.Back (a .turns) r (now (mem .entry)) (now (table .entry))) ⌝ }
+    ensures { λ a. ⌜ BatchPromise Direction.Back n r (now (mem .entry)) (now (table .entry)) a (now (mem .exit)) ⌝ }
 {
     r.back_batch(n, mem, table)
 }
 
 #[no_mangle]
 pub extern "C" fn crank_load(file: &[u8], mem: &mut [u32], table: &mut [u32]) -> Loaded
-    ensures { λ a.
-        ⌜ (a ≡ loadOf (now (file .entry)) (now (mem .entry)) (now (table .entry)))
-        × (now (mem .exit) ≡ memAfterLoad (now (file .entry)) (now (mem .entry)) (now (table .entry)))
-        × (now (table .exit) ≡ tableAfterLoad (now (file .entry)) (now (mem .entry)) (now (table .entry))) ⌝ }
+    ensures { λ a. ⌜ LoadPromise (now (file .entry)) (now (mem .entry)) (now (table .entry)) a (now (mem .exit)) (now (table .exit)) ⌝ }
 {
     image::load(file, mem, table)
 }
@@ -82,9 +68,7 @@ pub extern "C" fn crank_preface_length(file: &[u8]) -> usize
 
 #[no_mangle]
 pub extern "C" fn crank_save(r: Record, mem: &[u32], table: &[u32], out: &mut [u8]) -> u32
-    ensures { λ a.
-        ⌜ (a ≡ saveOf r (now (mem .entry)) (now (table .entry)) (now (out .entry)))
-        × (now (out .exit) ≡ outAfterSave r (now (mem .entry)) (now (table .entry)) (now (out .entry))) ⌝ }
+    ensures { λ a. ⌜ SavePromise r (now (mem .entry)) (now (table .entry)) (now (out .entry)) a (now (out .exit)) ⌝ }
 {
     image::save(r, mem, table, out)
 }

@@ -11,13 +11,15 @@ use lib.ListN.{length}
 use borrow.Author.Tests.{lt-ltb, le-ltb, ltb-true}
 use Rattle.word.specs.Word.{pick}
 use Rattle.step.specs.declared.Direction.{Direction}
-use Rattle.machine.specs.Calls.{Machine, machineOf, refusal, next}
-use Rattle.machine.specs.Batch.{after, Count, CountOf, batchOf, batchMemory}
+use Rattle.step.specs.declared.Direction.the-variants.{Forward}
+use Rattle.step.specs.View.{Bounds}
+use Rattle.machine.specs.Calls.{Machine, machineOf, viewOf, refusal, next}
+use Rattle.machine.specs.Batch.{after, Count, BatchPromise}
 use Rattle.machine.specs.declared.Record.{Record}
 use Rattle.machine.specs.declared.Batch.{Batch}
 use Rattle.machine.proofs.Claims.{next-long}
 use Rattle.machine.proofs.Runs.{Going, after-none, going, ended}
-use Rattle.crank.specs.Until.{Exhausts}
+use Rattle.crank.specs.Program.{limit, TurnsAll}
 
 module _ (table : List ℕ) (d : Direction) where
   after-add : (j k : ℕ) (x : Machine) → after table d (j + k) x ≡ after table d k (after table d j x)
@@ -80,53 +82,69 @@ some table d m y (suc k) c h z = omega arith
 
 -- ---- the loop's own terms
 
--- what the contract asks of the answer a and the memory at exit
-abbrev Answers : Direction → ℕ → Record → List ℕ → List ℕ → Batch → List ℕ → Type 0
-Answers d n r mem table a mem′ =
-    CountOf d n r mem table (a .turns) × (a ≡ batchOf d n (a .turns) r mem table) × (mem′ ≡ batchMemory d (a .turns) r mem table) × Exhausts n a
+-- the invariant: the turns made, and the bounds that the promise has
+pub record Loop (table : List ℕ) (r₀ : Record) (mem₀ : List ℕ) (r : Record) (mem : List ℕ) (i : ℕ) : Type 0 where
+  pub run : Going table Forward limit (machineOf r₀ mem₀) (machineOf r mem) i
+  pub bounds : Bounds (viewOf r₀ mem₀)
 
--- from the parts: k turns led to r′ and mem′, and w stopped them
-answers : (d : Direction) (n : ℕ) (r : Record) (mem table : List ℕ) (k w : ℕ) (r′ : Record) (mem′ : List ℕ) (a : Batch)
-    → Count table d n (machineOf r mem) k × (w ≡ pick (ltb k n) (refusal table d (after table d k (machineOf r mem))) 0)
-    → machineOf r′ mem′ ≡ after table d k (machineOf r mem) → (k < n → w ≢ 0) → a ≡ record { turns = k; refusal = w; state = r′ }
-    → Answers d n r mem table a mem′
-answers d n r mem table k w r′ mem′ a c e x p =
-    subst (λ (z : Batch). Answers d n r mem table z mem′) (sym p)
-    (c .0, λ j. record { turns = k; refusal = c .1 j; state = e j .state }, ap (λ (u : Machine). u .memory) e, x)
+pub loop-starts : {table : List ℕ} {r : Record} {mem : List ℕ} → Bounds (viewOf r mem) → Loop table r mem r mem 0
+loop-starts {table} {r} {mem} g = record { run = going table Forward limit (machineOf r mem); bounds = g }
 
-module _ (table : List ℕ) (d : Direction) (n : ℕ) (r₀ : Record) (mem₀ : List ℕ) (r : Record) (mem : List ℕ) (i : ℕ)
-    (g : Going table d n (machineOf r₀ mem₀) (machineOf r mem) i) where
-  pub done : n ≤ i → (a : Batch) → a ≡ record { turns = i; refusal = 0; state = r } → Answers d n r₀ mem₀ table a mem
-  done h a p =
-      let l = ended table d n (machineOf r₀ mem₀) (machineOf r mem) i g h in
-      answers d n r₀ mem₀ table i 0 r mem a (l .0, l .1) (l .2) (λ q. absurd (omega arith)) p
+module _ {table : List ℕ} {r₀ : Record} {mem₀ : List ℕ} {r : Record} {mem : List ℕ} {i : ℕ} (inv : Loop table r₀ mem₀ r mem i) where
+  abbrev x : Machine
+  x = machineOf r₀ mem₀
 
-  -- a batch of what is left, as its contract has it
-  module _ (h : i < n) (b : Batch) (mem′ : List ℕ)
-      (f : CountOf d (n - i) r mem table (b .turns) × (b ≡ batchOf d (n - i) (b .turns) r mem table) × (mem′ ≡ batchMemory d (b .turns) r mem table)) where
-    led : machineOf (b .state) mem′ ≡ after table d (b .turns) (machineOf r mem)
-    led = λ j. machineOf (f .1 j .state) (f .2 j)
+  abbrev y : Machine
+  y = machineOf r mem
 
-    said : b .refusal ≡ pick (ltb (b .turns) (n - i)) (refusal table d (after table d (b .turns) (machineOf r mem))) 0
-    said = ap (λ (z : Batch). z .refusal) (f .1)
+  -- from the parts: k turns led to r′ and mem′, and w stopped them
+  answers : (k w : ℕ) (r′ : Record) (mem′ : List ℕ) (a : Batch)
+      → Count table Forward limit x k × (w ≡ pick (ltb k limit) (refusal table Forward (after table Forward k x)) 0)
+      → machineOf r′ mem′ ≡ after table Forward k x → (k < limit → w ≢ 0) → a ≡ record { turns = k; refusal = w; state = r′ }
+      → TurnsAll r₀ mem₀ table a mem′
+  answers k w r′ mem′ a c e h p =
+      subst (λ (z : Batch). TurnsAll r₀ mem₀ table z mem′) (sym p)
+      (record {
+        batch =
+            record {
+              count = c .0;
+              answer = λ j. record { turns = k; refusal = c .1 j; state = e j .state };
+              memory = ap (λ (u : Machine). u .memory) e;
+              bounds = inv .bounds;
+            };
+        all = h;
+      })
 
-    more : Going table d n (machineOf r₀ mem₀) (after table d (b .turns) (machineOf r mem)) (i + b .turns)
-    more = on table d n (machineOf r₀ mem₀) (machineOf r mem) i g (b .turns) (f .0) h
+  pub done : {a : Batch} → limit ≤ i → a ≡ record { turns = i; refusal = 0; state = r } → TurnsAll r₀ mem₀ table a mem
+  done {a} h p =
+      let l = ended table Forward limit x y i (inv .run) h in
+      answers i 0 r mem a (l .0, l .1) (l .2) (λ q. absurd (omega arith)) p
 
-    pub most : b .turns ≤ n - i
-    most = f .0 .most
+  -- a batch of what is left
+  module _ (h : i < limit) {b : Batch} {mem′ : List ℕ} (f : BatchPromise Forward (limit - i) r mem table b mem′) where
+    led : machineOf (b .state) mem′ ≡ after table Forward (b .turns) y
+    led = λ j. machineOf (f .answer j .state) (f .memory j)
+
+    said : b .refusal ≡ pick (ltb (b .turns) (limit - i)) (refusal table Forward (after table Forward (b .turns) y)) 0
+    said = ap (λ (z : Batch). z .refusal) (f .answer)
+
+    more : Going table Forward limit x (after table Forward (b .turns) y) (i + b .turns)
+    more = on table Forward limit x y i (inv .run) (b .turns) (f .count) h
+
+    pub most : b .turns ≤ limit - i
+    most = f .count .most
 
     pub kept : length mem′ ≡ length mem₀
     kept = ap (λ (z : Machine). length (z .memory)) led ∙ more .long
 
-    pub again : Going table d n (machineOf r₀ mem₀) (machineOf (b .state) mem′) (i + b .turns)
-    again = subst (λ (z : Machine). Going table d n (machineOf r₀ mem₀) z (i + b .turns)) (sym led) more
+    pub again : Loop table r₀ mem₀ (b .state) mem′ (i + b .turns)
+    again = record { run = subst (λ (z : Machine). Going table Forward limit x z (i + b .turns)) (sym led) more; bounds = inv .bounds }
 
     pub fewer : b .refusal ≡ 0 → 0 < b .turns
-    fewer z = some table d (n - i) (machineOf r mem) (b .turns) (f .0) (omega arith) (sym z ∙ said)
+    fewer z = some table Forward (limit - i) y (b .turns) (f .count) (omega arith) (sym z ∙ said)
 
-    pub stop : b .refusal ≢ 0 → (a : Batch) → a ≡ record { turns = i + b .turns; refusal = b .refusal; state = b .state }
-        → Answers d n r₀ mem₀ table a mem′
-    stop z a p =
-        let l = stopped table d n (machineOf r₀ mem₀) (machineOf r mem) i g (b .turns) (f .0) h (b .refusal) z said in
-        answers d n r₀ mem₀ table (i + b .turns) (b .refusal) (b .state) mem′ a l (led ∙ sym (more .machine)) (λ q. z) p
+    pub stop : {a : Batch} → b .refusal ≢ 0 → a ≡ record { turns = i + b .turns; refusal = b .refusal; state = b .state }
+        → TurnsAll r₀ mem₀ table a mem′
+    stop {a} z p =
+        let l = stopped table Forward limit x y i (inv .run) (b .turns) (f .count) h (b .refusal) z said in
+        answers (i + b .turns) (b .refusal) (b .state) mem′ a l (led ∙ sym (more .machine)) (λ q. z) p

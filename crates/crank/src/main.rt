@@ -1,10 +1,8 @@
 // The crank program: reads an image from standard input, turns forward until refused or LIMIT turns,
-// and prints the turns, the refusal and the record.
+// and prints the turns, the refusal and the record. What it reads, the arrays that it lends and what it
+// prints are tested; what is done with them is proved.
 ghost use mathlib.Core.Path.{_≡_};
-ghost use Prim.Native.Nat.{_<_};
-ghost use Rattle.step.specs.declared.Direction.{Direction};
-ghost use Rattle.machine.specs.Batch.{batchOf, batchMemory, CountOf};
-ghost use Rattle.crank.specs.Until.{Exhausts};
+ghost use Rattle.crank.specs.Program.{TurnsAll, ProgramPromise};
 use libc::STDIN_FILENO;
 use libc::STDOUT_FILENO;
 use machine::Batch;
@@ -14,6 +12,10 @@ use machine::Record;
 const LIMIT: u32 = 1000000;
 // One byte more than an image may have, so that a longer input shows.
 const ROOM: usize = 65537;
+// The most words of memory and of table.
+const WORDS: usize = Record::MAX_WORDS as usize;
+
+const LINKS: usize = Record::NODE_WORDS * (Record::MAX_NODES as usize);
 
 fn answer(turns: u32, refusal: u32, state: Record) -> Batch
     ensures { λ r. ⌜ r ≡ record { turns = turns; refusal = refusal; state = state } ⌝ }
@@ -27,11 +29,7 @@ fn answer(turns: u32, refusal: u32, state: Record) -> Batch
 
 // Batches forward until one is refused or LIMIT turns are made; a batch may make fewer than it is asked for.
 fn until(r: Record, mem: &mut [u32], table: &[u32]) -> Batch
-    ensures { λ b.
-        ⌜ CountOf Direction.Forward 1000000 r (now (mem .entry)) (now (table .entry)) (b .turns)
-        × (b ≡ batchOf Direction.Forward 1000000 (b .turns) r (now (mem .entry)) (now (table .entry)))
-        × (now (mem .exit) ≡ batchMemory Direction.Forward (b .turns) r (now (mem .entry)) (now (table .entry)))
-        × Exhausts 1000000 b ⌝ }
+    ensures { λ b. ⌜ TurnsAll r (now (mem .entry)) (now (table .entry)) b (now (mem .exit)) ⌝ }
 {
     let mut at = r;
     let mut made = 0;
@@ -47,6 +45,31 @@ fn until(r: Record, mem: &mut [u32], table: &[u32]) -> Batch
         made += k;
     }
     answer(made, 0, at)
+}
+
+// What the program does: load's refusal, 0 for none, and the turns that were then made.
+struct Outcome {
+    refusal: u32,
+    batch: Batch,
+}
+
+fn end_with(refusal: u32, batch: Batch) -> Outcome
+    ensures { λ r. ⌜ r ≡ record { refusal = refusal; batch = batch } ⌝ }
+{
+    Outcome { refusal, batch }
+}
+
+// Loads the file and turns it.
+fn turn_image(file: &[u8], mem: &mut [u32], table: &mut [u32]) -> Outcome
+    ensures { λ r. ⌜ ProgramPromise (now (file .entry)) (now (mem .entry)) (now (table .entry)) (r .refusal) (r .batch) (now (mem .exit)) (now (table .exit)) ⌝ }
+{
+    let loaded = image::load(file, mem, table);
+    let refusal = loaded.refusal;
+    let r = loaded.state;
+    if refusal != 0 {
+        return end_with(refusal, answer(0, 0, r));
+    }
+    end_with(refusal, until(r, mem, table))
 }
 
 fn print_number(x: u32) {
@@ -79,24 +102,22 @@ fn print_answer(b: Batch) {
     io::write_all(STDOUT_FILENO, b"\n");
 }
 
-fn run(file: &[u8]) {
-    let mut mem = [0u32; 8192];
-    let mut table = [0u32; 4599];
-    let loaded = image::load(file, &mut mem, &mut table);
-    let refusal = loaded.refusal;
-    let r = loaded.state;
+fn print_outcome(o: Outcome) {
+    let refusal = o.refusal;
+    let b = o.batch;
     if refusal != 0 {
         io::write_all(STDOUT_FILENO, b"refusal ");
         print_number(refusal);
         io::write_all(STDOUT_FILENO, b"\n");
         return;
     }
-    let b = until(r, &mut mem, &table);
     print_answer(b);
 }
 
 fn main() {
     let mut file = [0u8; ROOM];
+    let mut mem = [0u32; WORDS];
+    let mut table = [0u32; LINKS];
     let n = io::read_full(STDIN_FILENO, &mut file);
-    run(&file[..n]);
+    print_outcome(turn_image(&file[..n], &mut mem, &mut table));
 }

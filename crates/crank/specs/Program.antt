@@ -1,0 +1,34 @@
+-- What the program does with a file (document 01, "The crank program"): it loads it, and turns forward until refused or
+-- 1,000,000 turns.
+use Prim.Native.Nat.{ℕ, _<_}
+use mathlib.Core.Path.{_≡_}
+use mathlib.Core.Logic.{_≢_}
+use mathlib.Core.List.{List}
+use Rattle.step.specs.declared.Direction.the-variants.{Forward}
+use Rattle.machine.specs.Calls.{zeros}
+use Rattle.machine.specs.Batch.{BatchPromise}
+use Rattle.machine.specs.declared.Record.{Record}
+use Rattle.machine.specs.declared.Batch.{Batch}
+use Rattle.image.specs.Load.{LoadPromise}
+use Rattle.image.specs.declared.Loaded.{Loaded}
+
+abbrev pub limit : ℕ
+limit = 1000000
+
+-- the turns: those of a batch of the limit, with none left unmade but for a refusal
+pub record TurnsAll (r : Record) (mem table : List ℕ) (a : Batch) (mem′ : List ℕ) : Type 0 where
+  pub batch : BatchPromise Forward limit r mem table a mem′
+  pub all : a .turns < limit → a .refusal ≢ 0
+
+abbrev pub noTurns : Batch
+noTurns = record { turns = 0; refusal = 0; state = zeros }
+
+-- What the program promises of a file and the lent words: load's refusal w, the turns a, and the lent words at exit.
+-- A refused load is all that is done; after an accepted one the loaded state is turned, on what load left.
+pub record ProgramPromise (file mem table : List ℕ) (w : ℕ) (a : Batch) (mem′ table′ : List ℕ) : Type 0 where
+  pub loaded : Loaded
+  pub between : List ℕ
+  pub load : LoadPromise file mem table loaded between table′
+  pub refusal : w ≡ loaded .refusal
+  pub refused : w ≢ 0 → (a ≡ noTurns) × (mem′ ≡ between)
+  pub turned : w ≡ 0 → TurnsAll (loaded .state) between table′ a mem′
