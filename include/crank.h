@@ -1,0 +1,163 @@
+/* The calls of the crank bench for C and C++: QINS on basis states, forward and back.
+ *
+ * Link libcapi.a for the turns, batches and images, libsession.a for the lesson bench; each is
+ * complete, and one program may link both. docs/CALLS.md says how they are built, docs/MANUAL.md
+ * what the machine does and, in section 9, what each refusal means. A refusal of 0 is none.
+ *
+ * A lent slice is a pointer and then its length in elements. The pointer is never null, not even
+ * for length 0, and what a call may write overlaps nothing else that is lent to it. That apart,
+ * every call takes every argument.
+ */
+#ifndef CRANK_H
+#define CRANK_H
+
+#include <stddef.h>
+#include <stdint.h>
+
+#ifdef __cplusplus
+#define CRANK_LAYOUT static_assert
+extern "C" {
+#else
+#define CRANK_LAYOUT _Static_assert
+#endif
+
+/* ---- Types ---- */
+
+/* The registers, the place in the qif table, and the sizes of the memory and table lent with it. */
+typedef struct Record {
+    uint32_t regs[16]; /* pc br ro sp r1 .. r12 */
+    uint32_t qifv;     /* the current node, 0 for none */
+    uint32_t qifw;     /* cycles still to wait */
+    uint32_t k;        /* code words, 1 to m: addresses 0 to k-1; k to m-1 are data */
+    uint32_t m;        /* memory words, 1 to 8192 */
+    uint32_t n;        /* nodes of the qif table, 0 to 511, nine words each */
+} Record;
+
+/* What a turn answers. */
+typedef struct Turned {
+    uint32_t refusal;
+    Record state; /* the record after the turn; refused: the record given */
+} Turned;
+
+/* What a batch answers. */
+typedef struct Batch {
+    uint32_t turns; /* turns made */
+    uint32_t refusal;
+    Record state; /* the record after these turns */
+} Batch;
+
+/* What a load answers. */
+typedef struct Loaded {
+    uint32_t refusal;
+    Record state; /* refused: all zeros, with which every turn is refused by 10 */
+} Loaded;
+
+/* What a check answers. */
+typedef struct Checked {
+    uint32_t refusal;
+    uint32_t place; /* 7: the code address; 8: the node; else 0 */
+} Checked;
+
+/* The lesson bench. Its caller fills in the record, and may read it between calls. */
+typedef struct Bench {
+    Record state;
+} Bench;
+
+/* What a batch on the lesson bench answers. */
+typedef struct Cranked {
+    uint32_t turns; /* turns made */
+    uint32_t refusal;
+} Cranked;
+
+CRANK_LAYOUT(sizeof(Record) == 84, "Record: 21 words");
+CRANK_LAYOUT(offsetof(Record, qifv) == 64, "Record: registers first");
+CRANK_LAYOUT(sizeof(Turned) == 88, "Turned: 22 words");
+CRANK_LAYOUT(offsetof(Turned, state) == 4, "Turned: record last");
+CRANK_LAYOUT(sizeof(Batch) == 92, "Batch: 23 words");
+CRANK_LAYOUT(offsetof(Batch, state) == 8, "Batch: record last");
+CRANK_LAYOUT(sizeof(Loaded) == 88, "Loaded: 22 words");
+CRANK_LAYOUT(offsetof(Loaded, state) == 4, "Loaded: record last");
+CRANK_LAYOUT(sizeof(Checked) == 8, "Checked: 2 words");
+CRANK_LAYOUT(sizeof(Bench) == 84, "Bench: a record");
+CRANK_LAYOUT(sizeof(Cranked) == 8, "Cranked: 2 words");
+
+/* ---- Turns and batches: libcapi.a ----
+ *
+ * A call takes the record by value and answers with the new one. The refusal is 10 where k, m or n
+ * of the record is out of range, mem is shorter than m words or table than 9 * n. Longer ones may
+ * be lent: the excess is never touched. Only data words of mem change, and nothing writes the
+ * table. A batch of 0 turns makes none and answers refusal 0, whatever the sizes are.
+ */
+
+/* 1 where the word is an instruction, else 0. */
+uint32_t qins_is_instruction(uint32_t word);
+
+/* One turn forward: executes the word at pc, or waits there for a cycle. Refusals 10 to 18.
+ * Refused: the answer has the record that was given, and mem is as it was. */
+Turned crank_forward(Record r, uint32_t *mem, size_t mem_len,
+                     const uint32_t *table, size_t table_len);
+
+/* One turn back: undoes the forward turn that leads here; refused exactly where there is none.
+ * Refused: as with crank_forward. */
+Turned crank_back(Record r, uint32_t *mem, size_t mem_len,
+                  const uint32_t *table, size_t table_len);
+
+/* Up to n turns forward. The first is made if n is not 0 and it is not refused; after that a batch
+ * may stop anywhere. Record and mem are as after so many single turns, with a refusal too. The
+ * refusal is that of the next turn where fewer than n are made and the next is refused, else 0:
+ * with fewer than n and refusal 0, call again for the rest. */
+Batch crank_forward_batch(Record r, uint32_t n, uint32_t *mem, size_t mem_len,
+                          const uint32_t *table, size_t table_len);
+
+/* Up to n turns back, likewise. */
+Batch crank_back_batch(Record r, uint32_t n, uint32_t *mem, size_t mem_len,
+                       const uint32_t *table, size_t table_len);
+
+/* ---- Images: libcapi.a ---- */
+
+/* Reads the image at the end of the file, behind any preface: fills the first m words of mem and
+ * the first 9 * n of table, and no more. 8192 and 4599 words are always enough. Refusals 1 to 6.
+ * Refused: the answer has a record of zeros, and nothing is written. */
+Loaded crank_load(const uint8_t *file, size_t file_len, uint32_t *mem, size_t mem_len,
+                  uint32_t *table, size_t table_len);
+
+/* The number of bytes before the image; 0 where crank_load would refuse by 1 to 5. */
+size_t crank_preface_length(const uint8_t *file, size_t file_len);
+
+/* Writes the image, without a preface, to the front of out: 4 * m + 36 * n + 92 bytes, and nothing
+ * behind them. 51256 bytes are always enough. Answers the refusal: 10 as in a turn, 9 where out is
+ * too short. Refused: nothing is written. */
+uint32_t crank_save(Record r, const uint32_t *mem, size_t mem_len,
+                    const uint32_t *table, size_t table_len, uint8_t *out, size_t out_len);
+
+/* Looks at the code words and at the links of the table; writes nothing. Refusals: 10 as in a
+ * turn, 7 at the lowest code address without an instruction, 8 at the lowest node with an unpaired
+ * link. */
+Checked crank_check(Record r, const uint32_t *mem, size_t mem_len,
+                    const uint32_t *table, size_t table_len);
+
+/* ---- The lesson bench: libsession.a ----
+ *
+ * The turns and batches above with the record in *b, which each call leaves as the record that the
+ * call by value would have answered. mem and table are lent as there.
+ */
+
+/* One turn; answers its refusal. Refused: *b and mem are as they were. */
+uint32_t bench_forward(Bench *b, uint32_t *mem, size_t mem_len,
+                       const uint32_t *table, size_t table_len);
+uint32_t bench_back(Bench *b, uint32_t *mem, size_t mem_len,
+                    const uint32_t *table, size_t table_len);
+
+/* Up to n turns, by the rules of crank_forward_batch: *b and mem are as after the turns made, with
+ * a refusal too. */
+Cranked bench_forward_batch(Bench *b, uint32_t n, uint32_t *mem, size_t mem_len,
+                            const uint32_t *table, size_t table_len);
+Cranked bench_back_batch(Bench *b, uint32_t n, uint32_t *mem, size_t mem_len,
+                         const uint32_t *table, size_t table_len);
+
+#ifdef __cplusplus
+}
+#endif
+#undef CRANK_LAYOUT
+
+#endif

@@ -1,0 +1,56 @@
+#!/bin/sh
+# Checks the C calls: check.sh LIBRARIES IMAGE...
+#
+# Compiles the header alone, as C and, where there is a C++ compiler, as C++;
+# looks in it for a declaration of every call that the static libraries in the
+# folder LIBRARIES export; then links roundtrip.c with both of them and runs it
+# on the images. Exits with 1 where one of these fails.
+
+if [ $# -lt 2 ]; then
+    echo "usage: check.sh LIBRARIES IMAGE..." >&2
+    exit 2
+fi
+libraries=$1
+shift
+cc=${CC:-cc}
+cxx=${CXX:-c++}
+folder=$(dirname -- "$0")
+include=$folder/../../include
+header=$include/crank.h
+scratch=$(mktemp -d) || exit 2
+trap 'rm -rf "$scratch"' EXIT
+
+fail() {
+    echo "C calls: $1"
+    exit 1
+}
+
+# compile COMPILER OPTION...: with all warnings as errors
+compile() {
+    "$@" -Wall -Wextra -Werror -pedantic -I"$include"
+}
+
+# The calls that the libraries export, one a line.
+exported() {
+    nm -g --defined-only "$libraries/libcapi.a" "$libraries/libsession.a" |
+        awk '$2 == "T" { print $3 }'
+}
+
+compile "$cc" -std=c11 -fsyntax-only -x c "$header" || fail 'the header is no C11'
+if command -v "$cxx" >/dev/null 2>&1; then
+    compile "$cxx" -fsyntax-only -x c++ "$header" || fail 'the header is no C++'
+fi
+
+# Preprocessed, since comments mention calls too.
+compile "$cc" -std=c11 -E -P -x c "$header" >"$scratch/declarations" || fail 'the preprocessor'
+count=0
+for call in $(exported); do
+    grep -q "[ *]$call(" "$scratch/declarations" || fail "the header lacks $call"
+    count=$((count + 1))
+done
+[ "$count" -gt 0 ] || fail 'the libraries export nothing'
+echo "header: $count calls"
+
+compile "$cc" -std=c11 -O1 -o "$scratch/roundtrip" "$folder/roundtrip.c" \
+    "$libraries/libcapi.a" "$libraries/libsession.a" || fail 'roundtrip.c'
+"$scratch/roundtrip" "$@" || fail 'the round trip'
