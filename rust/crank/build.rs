@@ -1,0 +1,34 @@
+//! Finds the static libraries of the proved calls, or says what to run.
+
+use std::env;
+use std::path::{Path, PathBuf};
+
+const LIBRARIES: [&str; 2] = ["capi", "session"];
+
+/// The folder of the libraries: CAPI_DIR, or where `rt staticlib` writes them.
+fn folder() -> PathBuf {
+    println!("cargo::rerun-if-env-changed=CAPI_DIR");
+    let package = env::var("CARGO_MANIFEST_DIR").expect("cargo sets CARGO_MANIFEST_DIR");
+    let given = env::var("CAPI_DIR").unwrap_or_else(|_| "../../target/staticlib".to_string());
+    // Joining keeps an absolute folder as it is.
+    Path::new(&package).join(given)
+}
+
+fn main() {
+    let folder = folder();
+    println!("cargo::rustc-link-search=native={}", folder.display());
+    for name in LIBRARIES {
+        let archive = folder.join(format!("lib{name}.a"));
+        println!("cargo::rerun-if-changed={}", archive.display());
+        if archive.is_file() {
+            println!("cargo::rustc-link-lib=static:-bundle={name}");
+        } else {
+            println!(
+                "cargo::error=the proved library {} is missing. In the project's top folder run \
+                 `rt staticlib {name}` and build again; for libraries kept elsewhere set CAPI_DIR \
+                 to their folder.",
+                archive.display()
+            );
+        }
+    }
+}

@@ -1,0 +1,308 @@
+//! The calls of `include/crank.h`, one function each.
+//!
+//! A slice is lent by its own pointer and length, for the time of the call, and no call keeps one.
+//! Every bit pattern is a value of the structs that come back.
+
+use crate::Record;
+
+/// What a turn answers.
+#[repr(C)]
+#[derive(Clone, Copy, Debug, PartialEq, Eq)]
+pub struct Turned {
+    pub refusal: u32,
+    /// The record after the turn; refused, the record given.
+    pub state: Record,
+}
+
+/// What a batch answers.
+#[repr(C)]
+#[derive(Clone, Copy, Debug, PartialEq, Eq)]
+pub struct Batch {
+    /// The turns made.
+    pub turns: u32,
+    pub refusal: u32,
+    /// The record after these turns.
+    pub state: Record,
+}
+
+/// What a load answers.
+#[repr(C)]
+#[derive(Clone, Copy, Debug, PartialEq, Eq)]
+pub struct Loaded {
+    pub refusal: u32,
+    /// Refused, all zeros.
+    pub state: Record,
+}
+
+/// What a check answers.
+#[repr(C)]
+#[derive(Clone, Copy, Debug, PartialEq, Eq)]
+pub struct Checked {
+    pub refusal: u32,
+    /// 7: the code address; 8: the node; else 0.
+    pub place: u32,
+}
+
+/// The lesson bench: a record that its calls alter.
+#[repr(C)]
+#[derive(Clone, Copy, Debug, PartialEq, Eq)]
+pub struct Bench {
+    pub state: Record,
+}
+
+/// What a batch on the lesson bench answers.
+#[repr(C)]
+#[derive(Clone, Copy, Debug, PartialEq, Eq)]
+pub struct Cranked {
+    /// The turns made.
+    pub turns: u32,
+    pub refusal: u32,
+}
+
+// As the header has them.
+const _: () = assert!(size_of::<Record>() == 84);
+const _: () = assert!(size_of::<Turned>() == 88 && size_of::<Loaded>() == 88);
+const _: () = assert!(size_of::<Batch>() == 92 && size_of::<Bench>() == 84);
+const _: () = assert!(size_of::<Checked>() == 8 && size_of::<Cranked>() == 8);
+
+extern "C" {
+    fn qins_is_instruction(word: u32) -> u32;
+    fn crank_forward(
+        r: Record,
+        mem: *mut u32,
+        mem_len: usize,
+        table: *const u32,
+        table_len: usize,
+    ) -> Turned;
+    fn crank_back(
+        r: Record,
+        mem: *mut u32,
+        mem_len: usize,
+        table: *const u32,
+        table_len: usize,
+    ) -> Turned;
+    fn crank_forward_batch(
+        r: Record,
+        n: u32,
+        mem: *mut u32,
+        mem_len: usize,
+        table: *const u32,
+        table_len: usize,
+    ) -> Batch;
+    fn crank_back_batch(
+        r: Record,
+        n: u32,
+        mem: *mut u32,
+        mem_len: usize,
+        table: *const u32,
+        table_len: usize,
+    ) -> Batch;
+    fn bench_forward(
+        b: *mut Bench,
+        mem: *mut u32,
+        mem_len: usize,
+        table: *const u32,
+        table_len: usize,
+    ) -> u32;
+    fn bench_back(
+        b: *mut Bench,
+        mem: *mut u32,
+        mem_len: usize,
+        table: *const u32,
+        table_len: usize,
+    ) -> u32;
+    fn bench_forward_batch(
+        b: *mut Bench,
+        n: u32,
+        mem: *mut u32,
+        mem_len: usize,
+        table: *const u32,
+        table_len: usize,
+    ) -> Cranked;
+    fn bench_back_batch(
+        b: *mut Bench,
+        n: u32,
+        mem: *mut u32,
+        mem_len: usize,
+        table: *const u32,
+        table_len: usize,
+    ) -> Cranked;
+    fn crank_load(
+        file: *const u8,
+        file_len: usize,
+        mem: *mut u32,
+        mem_len: usize,
+        table: *mut u32,
+        table_len: usize,
+    ) -> Loaded;
+    fn crank_preface_length(file: *const u8, file_len: usize) -> usize;
+    fn crank_save(
+        r: Record,
+        mem: *const u32,
+        mem_len: usize,
+        table: *const u32,
+        table_len: usize,
+        out: *mut u8,
+        out_len: usize,
+    ) -> u32;
+    fn crank_check(
+        r: Record,
+        mem: *const u32,
+        mem_len: usize,
+        table: *const u32,
+        table_len: usize,
+    ) -> Checked;
+}
+
+/// Whether the word is an instruction.
+pub fn is_instruction(word: u32) -> bool {
+    // SAFETY: takes and returns plain words.
+    unsafe { qins_is_instruction(word) == 1 }
+}
+
+/// One turn forward: executes the word at pc, or waits there. Refusals 10 to 18.
+pub fn forward(r: Record, mem: &mut [u32], table: &[u32]) -> Turned {
+    // SAFETY: pointers and lengths come from live slices.
+    unsafe { crank_forward(r, mem.as_mut_ptr(), mem.len(), table.as_ptr(), table.len()) }
+}
+
+/// One turn back: undoes the forward turn that leads here; refused exactly where there is none.
+pub fn back(r: Record, mem: &mut [u32], table: &[u32]) -> Turned {
+    // SAFETY: pointers and lengths come from live slices.
+    unsafe { crank_back(r, mem.as_mut_ptr(), mem.len(), table.as_ptr(), table.len()) }
+}
+
+/// Up to `n` turns forward; it may stop early, but makes at least one or refuses.
+pub fn forward_batch(r: Record, n: u32, mem: &mut [u32], table: &[u32]) -> Batch {
+    // SAFETY: pointers and lengths come from live slices.
+    unsafe {
+        crank_forward_batch(
+            r,
+            n,
+            mem.as_mut_ptr(),
+            mem.len(),
+            table.as_ptr(),
+            table.len(),
+        )
+    }
+}
+
+/// Up to `n` turns back, likewise.
+pub fn back_batch(r: Record, n: u32, mem: &mut [u32], table: &[u32]) -> Batch {
+    // SAFETY: pointers and lengths come from live slices.
+    unsafe {
+        crank_back_batch(
+            r,
+            n,
+            mem.as_mut_ptr(),
+            mem.len(),
+            table.as_ptr(),
+            table.len(),
+        )
+    }
+}
+
+/// Reads the image at the end of the file: fills the first M words of `mem` and the first 9N of
+/// `table`, and no more. Refusals 1 to 6; refused, nothing is written.
+pub fn load(file: &[u8], mem: &mut [u32], table: &mut [u32]) -> Loaded {
+    // SAFETY: pointers and lengths come from live slices.
+    unsafe {
+        crank_load(
+            file.as_ptr(),
+            file.len(),
+            mem.as_mut_ptr(),
+            mem.len(),
+            table.as_mut_ptr(),
+            table.len(),
+        )
+    }
+}
+
+/// The bytes before the image; none where `load` would refuse by 1 to 5.
+pub fn preface(file: &[u8]) -> &[u8] {
+    // SAFETY: pointer and length come from a live slice.
+    &file[..unsafe { crank_preface_length(file.as_ptr(), file.len()) }]
+}
+
+/// Writes the image, without a preface, to the front of `out`. Gives the refusal, 10 or 9;
+/// refused, nothing is written.
+pub fn save(r: Record, mem: &[u32], table: &[u32], out: &mut [u8]) -> u32 {
+    // SAFETY: pointers and lengths come from live slices.
+    unsafe {
+        crank_save(
+            r,
+            mem.as_ptr(),
+            mem.len(),
+            table.as_ptr(),
+            table.len(),
+            out.as_mut_ptr(),
+            out.len(),
+        )
+    }
+}
+
+/// Looks at the code words and at the links of the table. Refusals 10, 7 and 8.
+pub fn check(r: Record, mem: &[u32], table: &[u32]) -> Checked {
+    // SAFETY: pointers and lengths come from live slices.
+    unsafe { crank_check(r, mem.as_ptr(), mem.len(), table.as_ptr(), table.len()) }
+}
+
+impl Bench {
+    /// One turn forward; gives its refusal.
+    pub fn forward(&mut self, mem: &mut [u32], table: &[u32]) -> u32 {
+        // SAFETY: self and the slices are live and not aliased.
+        unsafe {
+            bench_forward(
+                self,
+                mem.as_mut_ptr(),
+                mem.len(),
+                table.as_ptr(),
+                table.len(),
+            )
+        }
+    }
+
+    /// One turn back; gives its refusal.
+    pub fn back(&mut self, mem: &mut [u32], table: &[u32]) -> u32 {
+        // SAFETY: self and the slices are live and not aliased.
+        unsafe {
+            bench_back(
+                self,
+                mem.as_mut_ptr(),
+                mem.len(),
+                table.as_ptr(),
+                table.len(),
+            )
+        }
+    }
+
+    /// Up to `n` turns forward, by the rules of [`forward_batch`].
+    pub fn forward_batch(&mut self, n: u32, mem: &mut [u32], table: &[u32]) -> Cranked {
+        // SAFETY: self and the slices are live and not aliased.
+        unsafe {
+            bench_forward_batch(
+                self,
+                n,
+                mem.as_mut_ptr(),
+                mem.len(),
+                table.as_ptr(),
+                table.len(),
+            )
+        }
+    }
+
+    /// Up to `n` turns back, likewise.
+    pub fn back_batch(&mut self, n: u32, mem: &mut [u32], table: &[u32]) -> Cranked {
+        // SAFETY: self and the slices are live and not aliased.
+        unsafe {
+            bench_back_batch(
+                self,
+                n,
+                mem.as_mut_ptr(),
+                mem.len(),
+                table.as_ptr(),
+                table.len(),
+            )
+        }
+    }
+}

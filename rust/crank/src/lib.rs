@@ -1,0 +1,71 @@
+//! The proved calls of the crank bench, for Rust: QINS, the instruction set of the quantum register
+//! machine, on classical basis states, forward and back.
+//!
+//! [`calls`] has every call of `include/crank.h`, safe to use and otherwise as it is there: the
+//! record by value, memory and table lent as slices, the answer with the refusal's number, 0 for
+//! none. Every call takes every argument. [`Machine`] keeps record, memory and table together, and
+//! [`meaning`] says a refusal in words. The machine itself is in `docs/MANUAL.md`.
+//!
+//! A turn forward executes a word, a turn back undoes it, and neither loses anything:
+//!
+//! ```
+//! use crank::{Direction, Machine};
+//!
+//! // start; xori r1, 5; finish
+//! let mut machine = Machine::new(3, vec![0x1A00_0000, 0x0240_0005, 0x1B00_0000], Vec::new());
+//! let beginning = machine.clone();
+//!
+//! // Until finish, which is never executed: refusal 12.
+//! let made = machine.turns(Direction::Forward, 100);
+//! assert_eq!((made.turns, made.refusal), (2, 12));
+//! assert_eq!(machine.record.regs[4], 5);
+//!
+//! // An image of the state, as a student hands it in.
+//! let image = machine.save().expect("its sizes are in order");
+//!
+//! // The marker loads it and turns it back by the same count.
+//! let mut marked = Machine::load(&image).expect("it is an image");
+//! let undone = marked.turns(Direction::Back, made.turns);
+//! assert_eq!((undone.turns, undone.refusal), (2, 0));
+//! assert_eq!(marked, beginning);
+//! ```
+//!
+//! The build needs the static libraries of the proved code; where they are missing it says what to
+//! run. The code behind these calls is proved for all arguments; the declarations in this package
+//! are not, and the tests of `rust/model` compare every call with an independent model.
+
+pub mod calls;
+mod machine;
+mod meaning;
+
+pub use machine::{Direction, Machine, Made};
+pub use meaning::{meaning, Call};
+
+/// The most memory words, M.
+pub const MAX_WORDS: usize = 8192;
+/// The most nodes of the qif table, N.
+pub const MAX_NODES: usize = 511;
+/// The words of a node: fc0 fc1 lc0 lc1 cf cl nx pr w.
+pub const NODE_WORDS: usize = 9;
+/// The most bytes of a file that can be loaded, preface and image.
+pub const MAX_FILE: usize = 65_536;
+/// The bytes that are enough for any image, without a preface.
+pub const MAX_IMAGE: usize = 4 * MAX_WORDS + 4 * NODE_WORDS * MAX_NODES + 92;
+
+/// The registers, the place in the qif table, and the sizes of the memory and table lent with it.
+#[repr(C)]
+#[derive(Clone, Copy, Debug, Default, PartialEq, Eq, Hash)]
+pub struct Record {
+    /// pc br ro sp r1 .. r12
+    pub regs: [u32; 16],
+    /// The current node, 0 for none.
+    pub qifv: u32,
+    /// Cycles still to wait.
+    pub qifw: u32,
+    /// K, the code words: addresses 0 to K-1; K to M-1 are data.
+    pub k: u32,
+    /// M, the memory words.
+    pub m: u32,
+    /// N, the nodes of the qif table.
+    pub n: u32,
+}

@@ -1,0 +1,146 @@
+//! A record together with the memory and the table that it is turned with.
+
+use crate::calls::{self, Batch, Checked};
+use crate::{Record, MAX_IMAGE, MAX_NODES, MAX_WORDS, NODE_WORDS};
+
+/// The direction of a turn.
+#[derive(Clone, Copy, Debug, PartialEq, Eq)]
+pub enum Direction {
+    /// Executes a word.
+    Forward,
+    /// Undoes one.
+    Back,
+}
+
+impl Direction {
+    /// The other direction.
+    pub fn reverse(self) -> Direction {
+        match self {
+            Direction::Forward => Direction::Back,
+            Direction::Back => Direction::Forward,
+        }
+    }
+}
+
+/// What a number of turns came to.
+#[derive(Clone, Copy, Debug, PartialEq, Eq)]
+pub struct Made {
+    /// The turns made.
+    pub turns: u64,
+    /// The refusal of the next turn where fewer were made than asked for, else 0.
+    pub refusal: u32,
+}
+
+/// A state of the machine: record, memory and table. Any values may stand in it, and every call on
+/// it answers, with a refusal where they do not fit.
+#[derive(Clone, Debug, PartialEq, Eq)]
+pub struct Machine {
+    pub record: Record,
+    pub mem: Vec<u32>,
+    pub table: Vec<u32>,
+}
+
+impl Machine {
+    /// A machine with the first `k` words of `mem` as code, whose registers, node and wait are 0.
+    pub fn new(k: u32, mem: Vec<u32>, table: Vec<u32>) -> Machine {
+        let record = Record {
+            k,
+            m: mem.len() as u32,
+            n: (table.len() / NODE_WORDS) as u32,
+            ..Record::default()
+        };
+        Machine { record, mem, table }
+    }
+
+    /// The state in an image, behind any preface.
+    ///
+    /// # Errors
+    ///
+    /// The refusal, 1 to 5.
+    pub fn load(file: &[u8]) -> Result<Machine, u32> {
+        let mut mem = vec![0; MAX_WORDS];
+        let mut table = vec![0; NODE_WORDS * MAX_NODES];
+        let loaded = calls::load(file, &mut mem, &mut table);
+        if loaded.refusal != 0 {
+            return Err(loaded.refusal);
+        }
+        mem.truncate(loaded.state.m as usize);
+        table.truncate(NODE_WORDS * loaded.state.n as usize);
+        Ok(Machine {
+            record: loaded.state,
+            mem,
+            table,
+        })
+    }
+
+    /// One turn; gives its refusal, 0 for none. Refused, it changes nothing.
+    pub fn turn(&mut self, direction: Direction) -> u32 {
+        let turned = match direction {
+            Direction::Forward => calls::forward(self.record, &mut self.mem, &self.table),
+            Direction::Back => calls::back(self.record, &mut self.mem, &self.table),
+        };
+        self.record = turned.state;
+        turned.refusal
+    }
+
+    /// Turns until `count` are made or one is refused.
+    pub fn turns(&mut self, direction: Direction, count: u64) -> Made {
+        let mut turns = 0;
+        while turns < count {
+            // A batch may stop early; it makes at least one turn or refuses.
+            let asked = u32::try_from(count - turns).unwrap_or(u32::MAX);
+            let batch = self.batch(direction, asked);
+            turns += u64::from(batch.turns);
+            if batch.refusal != 0 {
+                let refusal = batch.refusal;
+                return Made { turns, refusal };
+            }
+        }
+        Made { turns, refusal: 0 }
+    }
+
+    fn batch(&mut self, direction: Direction, n: u32) -> Batch {
+        let (record, mem, table) = (self.record, &mut self.mem, &self.table);
+        let batch = match direction {
+            Direction::Forward => calls::forward_batch(record, n, mem, table),
+            Direction::Back => calls::back_batch(record, n, mem, table),
+        };
+        self.record = batch.state;
+        batch
+    }
+
+    /// The refusal that a turn would give; the machine stays as it is.
+    pub fn refusal(&self, direction: Direction) -> u32 {
+        self.clone().turn(direction)
+    }
+
+    /// Whether the machine stands at finish: a forward turn gives 12.
+    pub fn at_finish(&self) -> bool {
+        self.refusal(Direction::Forward) == 12
+    }
+
+    /// Whether the machine stands at start and does not wait: a back turn gives 12.
+    pub fn at_start(&self) -> bool {
+        self.refusal(Direction::Back) == 12
+    }
+
+    /// The image of this state, without a preface.
+    ///
+    /// # Errors
+    ///
+    /// Refusal 10, where the sizes do not fit.
+    pub fn save(&self) -> Result<Vec<u8>, u32> {
+        let mut image = vec![0; MAX_IMAGE];
+        let refusal = calls::save(self.record, &self.mem, &self.table, &mut image);
+        if refusal != 0 {
+            return Err(refusal);
+        }
+        image.truncate(4 * self.record.m as usize + 36 * self.record.n as usize + 92);
+        Ok(image)
+    }
+
+    /// Looks at the code words and at the links of the table.
+    pub fn check(&self) -> Checked {
+        calls::check(self.record, &self.mem, &self.table)
+    }
+}

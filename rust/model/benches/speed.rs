@@ -1,0 +1,290 @@
+//! Turns per second, forward and back, in single calls and in batches, of
+//! the library and of the model in one run.
+//!
+//! Options: `--seconds S`, the time for each figure (default 0.5).
+
+#[path = "../tests/proved/mod.rs"]
+mod proved;
+
+use std::env;
+use std::hint::black_box;
+use std::process::exit;
+use std::time::{Duration, Instant};
+
+use crank_model::instruction::{word_i, word_o, word_r};
+use crank_model::machine::{self, Batch, Record, NODE};
+use crank_model::state::{Machine, Turn, Way, WAYS};
+
+type BatchCall = fn(Record, u32, &mut [u32], &[u32]) -> Batch;
+
+/// Turns made in one direction before they are made in the other.
+const STRETCH: u32 = 20_000;
+
+struct Crank {
+    name: &'static str,
+    turns: [Turn; 2],
+    batches: [BatchCall; 2],
+}
+
+/// The model last, as the others are compared with it.
+fn cranks() -> Vec<Crank> {
+    vec![
+        Crank {
+            name: "library",
+            turns: [proved::forward, proved::back],
+            batches: [proved::forward_batch, proved::back_batch],
+        },
+        Crank {
+            name: "bench",
+            turns: [bench::forward, bench::back],
+            batches: [bench::forward_batch, bench::back_batch],
+        },
+        Crank {
+            name: "model",
+            turns: [machine::forward, machine::back],
+            batches: [machine::forward_batch, machine::back_batch],
+        },
+    ]
+}
+
+/// The bench calls with the record copied in and out.
+mod bench {
+    use super::proved::Bench;
+    use crank_model::machine::{Batch, Record};
+
+    pub fn forward(r: Record, mem: &mut [u32], table: &[u32]) -> (u32, Record) {
+        let mut bench = Bench::new(r);
+        (bench.forward(mem, table), bench.record())
+    }
+
+    pub fn back(r: Record, mem: &mut [u32], table: &[u32]) -> (u32, Record) {
+        let mut bench = Bench::new(r);
+        (bench.back(mem, table), bench.record())
+    }
+
+    fn batch(bench: Bench, (turns, refusal): (u32, u32)) -> Batch {
+        Batch {
+            turns,
+            refusal,
+            record: bench.record(),
+        }
+    }
+
+    pub fn forward_batch(r: Record, n: u32, mem: &mut [u32], table: &[u32]) -> Batch {
+        let mut bench = Bench::new(r);
+        let made = bench.forward_batch(n, mem, table);
+        batch(bench, made)
+    }
+
+    pub fn back_batch(r: Record, n: u32, mem: &mut [u32], table: &[u32]) -> Batch {
+        let mut bench = Bench::new(r);
+        let made = bench.back_batch(n, mem, table);
+        batch(bench, made)
+    }
+}
+
+/// An endless loop over the body, standing at its first word. A branch at the
+/// bottom sets br, the same branch at the top clears it.
+fn endless(body: &[u32], data: &[u32], table: Vec<u32>) -> Machine {
+    let offset = (body.len() as u32 + 1).wrapping_neg();
+    let mut mem = vec![word_i(5, 0, offset)];
+    mem.extend(body);
+    mem.push(word_i(5, 0, offset));
+    let k = mem.len() as u32;
+    mem.extend(data);
+    let mut regs = [0; 16];
+    regs[0] = 1;
+    for (i, reg) in regs.iter_mut().enumerate().skip(2) {
+        *reg = 0x0123_4567 * i as u32;
+    }
+    let record = Record {
+        regs,
+        qifv: u32::from(!table.is_empty()),
+        qifw: 0,
+        k,
+        m: mem.len() as u32,
+        n: (table.len() / NODE) as u32,
+    };
+    Machine { record, mem, table }
+}
+
+fn arithmetic() -> Machine {
+    let body = [
+        word_r(20, 4, 5),
+        word_i(3, 5, 17),
+        word_r(19, 6, 4),
+        word_r(21, 7, 6),
+        word_r(18, 8, 9),
+        word_o(35, 2, 10, 4, 6),
+        word_o(35, 5, 11, 5, 7),
+        word_r(22, 9, 0),
+        word_i(2, 12, 0x5555),
+        word_i(4, 8, 3),
+        word_o(34, 2, 13, 12, 0),
+        word_r(20, 14, 0),
+    ];
+    endless(&body, &[], Vec::new())
+}
+
+fn exchange() -> Machine {
+    let body = [
+        word_i(1, 4, 10),
+        word_r(16, 5, 10),
+        word_r(17, 6, 11),
+        word_r(20, 4, 5),
+        word_i(1, 7, 11),
+        word_r(16, 8, 11),
+        word_r(17, 9, 10),
+        word_i(1, 4, 12),
+    ];
+    let mut machine = endless(&body, &[11, 22, 33, 44], Vec::new());
+    machine.record.regs[10] = 12;
+    machine.record.regs[11] = 13;
+    machine
+}
+
+/// A qif whose next node is itself; the taken branch has a nested qif of the
+/// same kind, and both wait.
+fn qifs() -> Machine {
+    let nodes: [[u32; NODE]; 6] = [
+        [2, 3, 4, 3, 0, 0, 1, 1, 0],
+        [5, 6, 5, 6, 1, 0, 4, 0, 2],
+        [0, 0, 0, 0, 1, 1, 0, 0, 0],
+        [0, 0, 0, 0, 0, 1, 0, 2, 0],
+        [0, 0, 0, 0, 2, 2, 0, 0, 3],
+        [0, 0, 0, 0, 2, 2, 0, 0, 1],
+    ];
+    let body = [
+        word_r(24, 4, 0),
+        word_r(20, 6, 7),
+        word_r(24, 5, 0),
+        word_i(3, 7, 1),
+        word_r(25, 5, 0),
+        word_r(19, 8, 6),
+        word_r(25, 4, 0),
+    ];
+    let mut machine = endless(&body, &[], nodes.concat());
+    machine.record.regs[4] = 0;
+    machine.record.regs[5] = 0;
+    machine
+}
+
+fn single_stretch(turn: Turn, machine: &mut Machine) {
+    for _ in 0..STRETCH {
+        let (refusal, record) = turn(
+            black_box(machine.record),
+            black_box(&mut machine.mem),
+            black_box(&machine.table),
+        );
+        assert_eq!(refusal, 0, "a measured turn is refused");
+        machine.record = record;
+    }
+}
+
+fn batch_stretch(call: BatchCall, machine: &mut Machine) {
+    let mut left = STRETCH;
+    while left > 0 {
+        let batch = call(
+            black_box(machine.record),
+            left,
+            black_box(&mut machine.mem),
+            black_box(&machine.table),
+        );
+        assert!(batch.refusal == 0 && batch.turns > 0);
+        left -= batch.turns;
+        machine.record = batch.record;
+    }
+}
+
+/// Million turns per second in both directions; the machine ends as it began.
+/// The median stretch counts, so that other work on the machine shows less.
+fn measure(
+    start: &Machine,
+    time: Duration,
+    mut stretch: impl FnMut(Way, &mut Machine),
+) -> [f64; 2] {
+    let mut machine = start.clone();
+    let mut spent = [Vec::new(), Vec::new()];
+    let begin = Instant::now();
+    while spent[0].is_empty() || begin.elapsed() < 2 * time {
+        for way in WAYS {
+            let begin = Instant::now();
+            stretch(way, &mut machine);
+            spent[way as usize].push(begin.elapsed());
+        }
+        assert_eq!(machine, *start, "the turns do not return");
+    }
+    spent.map(|mut s| {
+        s.sort();
+        f64::from(STRETCH) / s[s.len() / 2].as_secs_f64() / 1e6
+    })
+}
+
+/// Figures of each crank for one program: [crank][single or batch][way].
+fn figures(start: &Machine, time: Duration, cranks: &[Crank]) -> Vec<[[f64; 2]; 2]> {
+    let each = |crank: &Crank| {
+        let single = measure(start, time, |way, m| {
+            single_stretch(crank.turns[way as usize], m);
+        });
+        let batch = measure(start, time, |way, m| {
+            batch_stretch(crank.batches[way as usize], m);
+        });
+        [single, batch]
+    };
+    cranks.iter().map(each).collect()
+}
+
+fn print_program(name: &str, cranks: &[Crank], found: &[[[f64; 2]; 2]]) {
+    for (mode, mode_name) in ["single", "batch"].iter().enumerate() {
+        for way in WAYS {
+            let model = found[found.len() - 1][mode][way as usize];
+            let way_name = format!("{way:?}").to_lowercase();
+            let mut line = format!("{name:<12}{mode_name:<8}{way_name:<9}");
+            for (crank, figures) in cranks.iter().zip(found) {
+                let speed = figures[mode][way as usize];
+                line += &format!("{speed:>9.1}");
+                if crank.name != "model" {
+                    line += &format!("{:>7.2}", speed / model);
+                }
+            }
+            println!("{line}");
+        }
+    }
+}
+
+fn seconds() -> Option<f64> {
+    // `cargo bench` adds --bench.
+    let args: Vec<String> = env::args().skip(1).filter(|a| a != "--bench").collect();
+    match args.as_slice() {
+        [] => Some(0.5),
+        [option, value] if option == "--seconds" => {
+            value.parse().ok().filter(|s: &f64| *s > 0.0 && *s < 3600.0)
+        }
+        _ => None,
+    }
+}
+
+fn main() {
+    let Some(seconds) = seconds() else {
+        eprintln!("usage: cargo bench --bench speed -- [--seconds S]");
+        exit(2);
+    };
+    let time = Duration::from_secs_f64(seconds);
+    let cranks = cranks();
+    let mut head = format!("{:<12}{:<8}{:<9}", "program", "calls", "way");
+    for crank in &cranks {
+        head += &format!("{:>9}", crank.name);
+        if crank.name != "model" {
+            head += &format!("{:>7}", "ratio");
+        }
+    }
+    println!("million turns per second; ratio to the model");
+    println!("{head}");
+    for (name, start) in [
+        ("arithmetic", arithmetic()),
+        ("exchange", exchange()),
+        ("qif", qifs()),
+    ] {
+        print_program(name, &cranks, &figures(&start, time, &cranks));
+    }
+}

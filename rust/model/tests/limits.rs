@@ -1,0 +1,141 @@
+//! Sizes at and past their limits, with lent slices exact, short and long:
+//! turns, check and save.
+
+mod proved;
+
+use crank_model::image;
+use crank_model::instruction::{word_i, word_r};
+use crank_model::machine::{Record, CF, FC, NODE};
+use crank_model::state::{Machine, Turn, WAYS};
+
+const R1: usize = 4;
+
+/// Code of one repeated word, with pc at the last code word or behind it.
+fn machine_of(sizes: [u32; 3], lent: [usize; 2], word: u32, pc: u32) -> Machine {
+    let [m, k, n] = sizes;
+    let mut record = Record {
+        k,
+        m,
+        n,
+        ..Record::default()
+    };
+    record.regs[0] = pc;
+    Machine {
+        record,
+        mem: vec![word; lent[0]],
+        table: vec![0; lent[1]],
+    }
+}
+
+/// Links node 1 to the last node by fc0 and cf, if the table has both.
+fn link_last(machine: &mut Machine) {
+    let n = machine.record.n as usize;
+    if n >= 2 && machine.table.len() >= NODE * n {
+        machine.table[FC] = n as u32;
+        machine.table[NODE * (n - 1) + CF] = 1;
+    }
+}
+
+/// Every machine of the test.
+fn each(mut visit: impl FnMut(Machine)) {
+    for m in [0u32, 1, 2, 8191, 8192, 8193, u32::MAX] {
+        for k in [0, 1, m.wrapping_sub(1), m, m.wrapping_add(1)] {
+            for n in [0u32, 2, 510, 511, 512, u32::MAX] {
+                let table = NODE * n.min(512) as usize;
+                for (less_mem, less_table) in [(0, 0), (1, 0), (0, 1)] {
+                    let mem_len = (m.min(8193) as usize).saturating_sub(less_mem);
+                    let lent = [mem_len, table.saturating_sub(less_table)];
+                    visit_words([m, k, n], lent, &mut visit);
+                }
+            }
+        }
+    }
+}
+
+fn visit_words(sizes: [u32; 3], lent: [usize; 2], visit: &mut impl FnMut(Machine)) {
+    let [m, k, n] = sizes;
+    for pc in [k.wrapping_sub(1), k] {
+        let last_data = word_i(1, R1, m.wrapping_sub(1));
+        for word in [word_i(2, R1, 5), last_data] {
+            visit(machine_of(sizes, lent, word, pc));
+        }
+        // A qif to the last node, and the undoing of it.
+        for node in [1, n] {
+            let mut machine = machine_of(sizes, lent, word_r(24, R1, 0), pc);
+            link_last(&mut machine);
+            machine.record.qifv = node;
+            visit(machine);
+        }
+    }
+}
+
+/// Refusals seen over all machines, forward and back.
+fn seen(turns: [Turn; 2]) -> [[u32; 20]; 2] {
+    let mut seen = [[0; 20]; 2];
+    each(|start| {
+        for way in WAYS {
+            let mut machine = start.clone();
+            let refusal = machine.turn(turns[way as usize]);
+            seen[way as usize][refusal as usize] += 1;
+            if refusal == 0 {
+                let undone = machine.turn(turns[way.reverse() as usize]);
+                assert_eq!(undone, 0);
+            }
+            assert!(machine == start, "{way:?} {refusal} {:?}", start.record);
+        }
+    });
+    seen
+}
+
+#[test]
+fn model() {
+    let seen = seen(WAYS.map(|way| way.model()));
+    for way in seen {
+        assert!([0, 10, 11, 15, 17].iter().all(|number| way[*number] > 0));
+    }
+    let (mut good, mut bad) = (0, 0);
+    each(|machine| {
+        let r = machine.record;
+        let (refusal, _) = image::check(r, &machine.mem, &machine.table);
+        let in_range = r.m >= 1 && r.m <= 8192 && r.k >= 1 && r.k <= r.m && r.n <= 511;
+        let lent = machine.mem.len() >= r.m as usize && machine.table.len() >= 9 * r.n as usize;
+        assert_eq!(refusal == 10, !(in_range && lent), "{r:?}");
+        good += u32::from(refusal != 10);
+        bad += u32::from(refusal == 10);
+    });
+    assert!(good > 0 && bad > 0);
+    println!("limits: sizes fit {good}, not {bad}");
+}
+
+#[test]
+fn turns() {
+    use crank_model::compare::same_turn;
+    use crank_model::cover::Cover;
+    let turns: [Turn; 2] = [proved::forward, proved::back];
+    let mut cover = Cover::default();
+    each(|start| {
+        for way in WAYS {
+            let mut machine = start.clone();
+            same_turn(way, &mut machine, turns[way as usize], &mut cover);
+        }
+    });
+    cover.summary("limits");
+    assert_eq!(seen(turns), seen(WAYS.map(|way| way.model())));
+}
+
+#[test]
+fn check_and_save() {
+    each(|m| {
+        let expected = image::check(m.record, &m.mem, &m.table);
+        let found = proved::check(m.record, &m.mem, &m.table);
+        assert_eq!(found, expected, "{:?}", m.record);
+        let fits = image::back_length(m.record.m, m.record.n).min(52_000) as usize;
+        for len in [fits, fits - 1] {
+            let (mut out, mut model_out) = (vec![7; len], vec![7; len]);
+            let found = proved::save(m.record, &m.mem, &m.table, &mut out);
+            let expected = image::save(m.record, &m.mem, &m.table, &mut model_out);
+            assert_eq!(found, expected, "{:?}", m.record);
+            assert!(out == model_out, "{:?}", m.record);
+        }
+    });
+}

@@ -1,0 +1,175 @@
+//! The crank program's output, byte for byte, against the model's.
+
+use std::env;
+use std::io::Write;
+use std::path::PathBuf;
+use std::process::{Command, Stdio};
+
+use crank_model::damage::damage;
+use crank_model::generate::valid;
+use crank_model::image::{back_length, save};
+use crank_model::instruction::{word_i, word_o, FINISH, START};
+use crank_model::machine::{sizes_fit, Record};
+use crank_model::program::output;
+use crank_model::rng::{rounds, Rng};
+use crank_model::state::Machine;
+use crank_model::structured;
+
+/// The program to run; `None` only if asked to skip.
+fn program() -> Option<PathBuf> {
+    if env::var("CRANK_SKIP_PROGRAM").as_deref() == Ok("1") {
+        println!("program: skipped");
+        return None;
+    }
+    let path = env::var_os("CRANK_BIN").map_or_else(
+        || PathBuf::from(env!("CARGO_MANIFEST_DIR")).join("../../target/bin/crank"),
+        PathBuf::from,
+    );
+    assert!(path.is_file(), "no program at {}", path.display());
+    Some(path)
+}
+
+fn run(program: &PathBuf, input: &[u8]) -> Vec<u8> {
+    let mut child = Command::new(program)
+        .stdin(Stdio::piped())
+        .stdout(Stdio::piped())
+        .spawn()
+        .expect("the program starts");
+    // The program may stop reading a file that is too long.
+    let _ = child.stdin.take().expect("piped").write_all(input);
+    let result = child.wait_with_output().expect("the program ends");
+    assert!(result.status.code().is_some(), "ended by a signal");
+    result.stdout
+}
+
+fn compare(program: &PathBuf, input: &[u8]) -> String {
+    let expected = output(input);
+    let found = run(program, input);
+    assert_eq!(
+        String::from_utf8_lossy(&found),
+        expected,
+        "input of {} bytes",
+        input.len()
+    );
+    expected
+}
+
+fn image_of(m: &Machine, preface: &[u8]) -> Vec<u8> {
+    let mut out = vec![0; back_length(m.record.m, m.record.n) as usize];
+    assert_eq!(save(m.record, &m.mem, &m.table, &mut out), 0);
+    [preface, &out].concat()
+}
+
+fn random_machine(rng: &mut Rng) -> Machine {
+    match rng.below(3) {
+        0 => valid(rng),
+        1 => structured::program(rng, None),
+        _ => {
+            let rounds = rng.between(1, 40);
+            structured::program(rng, Some(rounds))
+        }
+    }
+}
+
+#[test]
+fn generated_images() {
+    let Some(program) = program() else { return };
+    let mut rng = Rng::new(81);
+    let (mut finished, mut refused) = (0, 0);
+    for _ in 0..rounds(250) {
+        let mut machine = random_machine(&mut rng);
+        if rng.chance(1, 5) {
+            damage(&mut rng, &mut machine);
+        }
+        if !sizes_fit(&machine.record, &machine.mem, &machine.table) {
+            continue;
+        }
+        let preface = rng.pick(&[0, 0, 7, 100]);
+        let text = compare(&program, &image_of(&machine, &rng.bytes(preface)));
+        let line = text.lines().next().unwrap_or("");
+        finished += u32::from(line.ends_with("refusal 12"));
+        refused += u32::from(!line.ends_with("refusal 12"));
+    }
+    println!("program: {finished} ended at finish, {refused} otherwise");
+    assert!(finished > 0 && refused > 0);
+}
+
+#[test]
+fn refused_loads() {
+    let Some(program) = program() else { return };
+    let mut rng = Rng::new(82);
+    let mut seen = [0; 7];
+    for _ in 0..rounds(120) {
+        let mut file = image_of(&random_machine(&mut rng), &[]);
+        let len = file.len();
+        match rng.below(5) {
+            0 => file.truncate(rng.index(92)),
+            1 => file[len - 1] ^= 1 << rng.below(8),
+            2 => file[len - 92 + 4 * rng.between(1, 3) as usize + 3] = 1,
+            3 => file[len - 92] ^= 1,
+            _ => {
+                file.drain(..1 + rng.index(len - 92));
+            }
+        }
+        let text = compare(&program, &file);
+        for (number, times) in seen.iter_mut().enumerate() {
+            *times += u32::from(text == format!("refusal {number}\n"));
+        }
+    }
+    println!("program: refused loads by number {seen:?}");
+    assert!((1..=5).all(|number| seen[number] > 0));
+}
+
+#[test]
+fn file_lengths() {
+    let Some(program) = program() else { return };
+    let mut rng = Rng::new(83);
+    let image = image_of(&structured::program(&mut rng, None), &[]);
+    compare(&program, &[]);
+    for length in [65_535, 65_536, 65_537, 100_000, 300_000] {
+        let preface = rng.bytes(length - image.len());
+        let text = compare(&program, &[&preface[..], &image].concat());
+        assert_eq!(text == "refusal 1\n", length > 65_536);
+    }
+}
+
+/// `pad` words, a loop of `rounds` with 4 turns each, and finish.
+fn counted_loop(rounds: u32, pad: usize) -> Machine {
+    let mut mem = vec![START];
+    mem.extend(vec![word_i(3, 9, 1); pad]);
+    let offset = 3u32.wrapping_neg();
+    mem.extend([word_i(7, 4, offset), word_i(3, 4, 1)]);
+    mem.extend([word_o(35, 4, 6, 4, 5), word_i(6, 6, offset), FINISH]);
+    let mut record = Record {
+        k: mem.len() as u32,
+        m: mem.len() as u32,
+        ..Record::default()
+    };
+    record.regs[5] = rounds;
+    Machine {
+        record,
+        mem,
+        table: Vec::new(),
+    }
+}
+
+/// Runs that end just before, at and after 1,000,000 turns.
+#[test]
+fn long_runs() {
+    let Some(program) = program() else { return };
+    // start and 4 turns in each round
+    for (pad, line) in [
+        (2, "turns 999999 refusal 12"),
+        (3, "turns 1000000 refusal 0"),
+        (4, "turns 1000000 refusal 0"),
+    ] {
+        let machine = counted_loop(249_999, pad);
+        let text = compare(&program, &image_of(&machine, &[]));
+        assert_eq!(text.lines().next(), Some(line));
+    }
+    let mut rng = Rng::new(84);
+    for _ in 0..2 {
+        let machine = structured::program(&mut rng, Some(1_000_000));
+        compare(&program, &image_of(&machine, &[]));
+    }
+}

@@ -1,0 +1,106 @@
+//! The proved calls, answering in the model's types.
+#![allow(dead_code)] // each test uses some of them
+
+use crank::calls;
+use crank_model::machine::{Batch, Record};
+
+fn given(r: Record) -> crank::Record {
+    crank::Record {
+        regs: r.regs,
+        qifv: r.qifv,
+        qifw: r.qifw,
+        k: r.k,
+        m: r.m,
+        n: r.n,
+    }
+}
+
+fn got(r: crank::Record) -> Record {
+    Record {
+        regs: r.regs,
+        qifv: r.qifv,
+        qifw: r.qifw,
+        k: r.k,
+        m: r.m,
+        n: r.n,
+    }
+}
+
+pub fn is_instruction(word: u32) -> bool {
+    calls::is_instruction(word)
+}
+
+pub fn forward(r: Record, mem: &mut [u32], table: &[u32]) -> (u32, Record) {
+    let turned = calls::forward(given(r), mem, table);
+    (turned.refusal, got(turned.state))
+}
+
+pub fn back(r: Record, mem: &mut [u32], table: &[u32]) -> (u32, Record) {
+    let turned = calls::back(given(r), mem, table);
+    (turned.refusal, got(turned.state))
+}
+
+fn batch(made: calls::Batch) -> Batch {
+    Batch {
+        turns: made.turns,
+        refusal: made.refusal,
+        record: got(made.state),
+    }
+}
+
+pub fn forward_batch(r: Record, n: u32, mem: &mut [u32], table: &[u32]) -> Batch {
+    batch(calls::forward_batch(given(r), n, mem, table))
+}
+
+pub fn back_batch(r: Record, n: u32, mem: &mut [u32], table: &[u32]) -> Batch {
+    batch(calls::back_batch(given(r), n, mem, table))
+}
+
+pub fn load(file: &[u8], mem: &mut [u32], table: &mut [u32]) -> (u32, Record) {
+    let loaded = calls::load(file, mem, table);
+    (loaded.refusal, got(loaded.state))
+}
+
+pub fn preface_length(file: &[u8]) -> usize {
+    calls::preface(file).len()
+}
+
+pub fn save(r: Record, mem: &[u32], table: &[u32], out: &mut [u8]) -> u32 {
+    calls::save(given(r), mem, table, out)
+}
+
+pub fn check(r: Record, mem: &[u32], table: &[u32]) -> (u32, u32) {
+    let checked = calls::check(given(r), mem, table);
+    (checked.refusal, checked.place)
+}
+
+/// The lesson bench.
+pub struct Bench(calls::Bench);
+
+impl Bench {
+    pub fn new(r: Record) -> Bench {
+        Bench(calls::Bench { state: given(r) })
+    }
+
+    pub fn record(&self) -> Record {
+        got(self.0.state)
+    }
+
+    pub fn forward(&mut self, mem: &mut [u32], table: &[u32]) -> u32 {
+        self.0.forward(mem, table)
+    }
+
+    pub fn back(&mut self, mem: &mut [u32], table: &[u32]) -> u32 {
+        self.0.back(mem, table)
+    }
+
+    pub fn forward_batch(&mut self, n: u32, mem: &mut [u32], table: &[u32]) -> (u32, u32) {
+        let made = self.0.forward_batch(n, mem, table);
+        (made.turns, made.refusal)
+    }
+
+    pub fn back_batch(&mut self, n: u32, mem: &mut [u32], table: &[u32]) -> (u32, u32) {
+        let made = self.0.back_batch(n, mem, table);
+        (made.turns, made.refusal)
+    }
+}
