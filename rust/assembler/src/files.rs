@@ -74,3 +74,8 @@ pub fn reason(e: &io::Error) -> String {
         None => text,
     }
 }
+
+/// The line for a fault of standard output: a closed pipe, a full disk.
+pub fn output_fault(e: &io::Error) -> String {
+    format!("standard output: {}", reason(e))
+}

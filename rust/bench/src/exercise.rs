@@ -17,9 +17,13 @@ impl Exercise {
     /// # Errors
     ///
     /// One line that names the file and says what is wrong.
-    pub fn open(name: &str) -> Result<Exercise, String> {
-        let mut bytes = files::read(Path::new(name))?;
-        if name.ends_with(".qasm") {
+    pub fn open(path: &Path) -> Result<Exercise, String> {
+        let name = path.display();
+        let mut bytes = files::read(path)?;
+        if path
+            .extension()
+            .is_some_and(|extension| extension == "qasm")
+        {
             let source = String::from_utf8(bytes).map_err(|_| format!("{name}: is no text"))?;
             bytes = assemble(&source).map_err(|e| format!("{name}: {e}"))?;
         }

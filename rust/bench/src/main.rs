@@ -1,25 +1,29 @@
-//! The bench at a desk: `bench FILE` turns an exercise to and fro, `bench mark` marks a hand-in.
+//! The bench at a desk: `bench FILE` turns an exercise to and fro, `bench mark` marks what is
+//! handed in.
 //!
 //! Every turn, load, save and check is a proved call; nothing of the machine is written here.
 
 mod exercise;
+mod mark;
+mod session;
 
 use std::env;
+use std::ffi::OsString;
 use std::io::{self, Write};
 use std::process::ExitCode;
 
+/// The status of bad input: arguments, files, commands.
+const BAD_INPUT: u8 = 2;
+
 fn main() -> ExitCode {
-    let arguments: Vec<String> = env::args().skip(1).collect();
-    // to be replaced: dispatch to the session or to mark
-    let mut out = io::stdout().lock();
-    match exercise::Exercise::open(&arguments[0]) {
-        Ok(found) => {
-            let _ = writeln!(out, "{:?}", found.machine.record);
-            ExitCode::SUCCESS
-        }
-        Err(line) => {
-            eprintln!("bench: {line}");
-            ExitCode::from(2)
-        }
-    }
+    let arguments: Vec<OsString> = env::args_os().skip(1).collect();
+    let done = match arguments.first() {
+        Some(first) if first == "mark" => mark::run(&arguments[1..]),
+        _ => session::run(&arguments),
+    };
+    ExitCode::from(done.unwrap_or_else(|line| {
+        // Nothing is left to be done where even this can't be written.
+        let _ = writeln!(io::stderr(), "bench: {line}");
+        BAD_INPUT
+    }))
 }
