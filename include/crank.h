@@ -1,7 +1,7 @@
 /* The calls of the crank bench for C and C++: QINS on basis states, forward and back.
  *
- * Link libcapi.a for the turns, batches and images, libsession.a for the lesson bench; each is
- * complete, and one program may link both. docs/CALLS.md says how they are built, docs/MANUAL.md
+ * Link libcapi.a for the turns, batches and images, libsession.a for the lesson bench, libprogram.a
+ * for the crank program; each is complete, and one program may link all. docs/CALLS.md says how they are built, docs/MANUAL.md
  * what the machine does and, in section 9, what each refusal means. A refusal of 0 is none.
  *
  * A lent slice is a pointer and then its length in elements. The pointer is never null, not even
@@ -154,6 +154,14 @@ Cranked bench_forward_batch(Bench *b, uint32_t n, uint32_t *mem, size_t mem_len,
                             const uint32_t *table, size_t table_len);
 Cranked bench_back_batch(Bench *b, uint32_t n, uint32_t *mem, size_t mem_len,
                          const uint32_t *table, size_t table_len);
+
+/* ---- The crank program: libprogram.a ---- */
+
+/* Reads an image from standard input, turns it forward until refused or 1000000 turns, and prints
+ * the turns, the refusal and the record. words is main's argc: more than 1 is refused with a line on
+ * standard error. Answers the exit status: 0; 1 after a refused load; 2 for arguments; 3 where not
+ * all could be written. */
+uint32_t crank_program(size_t words);
 
 #ifdef __cplusplus
 }

@@ -3,7 +3,9 @@
 use std::env;
 use std::path::{Path, PathBuf};
 
-const LIBRARIES: [&str; 2] = ["capi", "session"];
+/// The libraries of the calls, and that of the program `crank`.
+const CALLS: [&str; 2] = ["capi", "session"];
+const PROGRAM: &str = "program";
 
 /// The folder of the libraries: CAPI_DIR, or where `rt staticlib` writes them.
 fn folder() -> PathBuf {
@@ -14,21 +16,31 @@ fn folder() -> PathBuf {
     Path::new(&package).join(given)
 }
 
+/// The archive of a library, if it is there; else what to run.
+fn archive(folder: &Path, name: &str) -> Option<PathBuf> {
+    let archive = folder.join(format!("lib{name}.a"));
+    println!("cargo::rerun-if-changed={}", archive.display());
+    if archive.is_file() {
+        return Some(archive);
+    }
+    println!(
+        "cargo::error=the proved library {} is missing. In the project's top folder run \
+         `rt staticlib {name}` and build again; for libraries kept elsewhere set CAPI_DIR to \
+         their folder.",
+        archive.display()
+    );
+    None
+}
+
 fn main() {
     let folder = folder();
     println!("cargo::rustc-link-search=native={}", folder.display());
-    for name in LIBRARIES {
-        let archive = folder.join(format!("lib{name}.a"));
-        println!("cargo::rerun-if-changed={}", archive.display());
-        if archive.is_file() {
+    for name in CALLS {
+        if archive(&folder, name).is_some() {
             println!("cargo::rustc-link-lib=static:-bundle={name}");
-        } else {
-            println!(
-                "cargo::error=the proved library {} is missing. In the project's top folder run \
-                 `rt staticlib {name}` and build again; for libraries kept elsewhere set CAPI_DIR \
-                 to their folder.",
-                archive.display()
-            );
         }
+    }
+    if let Some(found) = archive(&folder, PROGRAM) {
+        println!("cargo::rustc-link-arg-bin=crank={}", found.display());
     }
 }

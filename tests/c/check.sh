@@ -32,8 +32,9 @@ compile() {
 
 # The calls that the libraries export, one a line.
 exported() {
-    nm -g --defined-only "$libraries/libcapi.a" "$libraries/libsession.a" |
-        awk '$2 == "T" { print $3 }'
+    for library in capi session program; do
+        nm -g --defined-only "$libraries/lib$library.a"
+    done | awk '$2 == "T" { print $3 }'
 }
 
 compile "$cc" -std=c11 -fsyntax-only -x c "$header" || fail 'the header is no C11'

@@ -19,7 +19,7 @@ use Rattle.machine.specs.declared.Record.{Record}
 use Rattle.machine.specs.declared.Batch.{Batch}
 use Rattle.machine.proofs.Claims.{next-long}
 use Rattle.machine.proofs.Runs.{Going, after-none, going, ended}
-use Rattle.crank.specs.Program.{limit, TurnsAll}
+use Rattle.program.specs.Program.{limit, TurnsAll}
 
 module _ (table : List ℕ) (d : Direction) where
   after-add : (j k : ℕ) (x : Machine) → after table d (j + k) x ≡ after table d k (after table d j x)

@@ -1,9 +1,9 @@
 use mathlib.Core.Path.{sym, ap, _∙_}
-use Rattle.crank.specs.declared.Outcome.{Outcome}
-use Rattle.crank.proofs.Program.{refused, accepted}
+use Rattle.program.specs.declared.Outcome.{Outcome}
+use Rattle.program.proofs.Program.{refused, accepted}
 use borrow.Author.Needs.{needs}
-use Rattle.crank.proofs.turn_image.Statement.{statement}
-use Rattle.crank.proofs.turn_image.Tie as tie
+use Rattle.program.proofs.turn_image.Statement.{statement}
+use Rattle.program.proofs.turn_image.Tie as tie
 
 pub turn-image-spec : {M : Type 1} → statement M
 turn-image-spec =

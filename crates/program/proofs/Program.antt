@@ -11,7 +11,7 @@ use Rattle.machine.specs.declared.Record.{Record}
 use Rattle.machine.specs.declared.Batch.{Batch}
 use Rattle.image.specs.Load.{loadRefusal, LoadPromise}
 use Rattle.image.specs.declared.Loaded.{Loaded}
-use Rattle.crank.specs.Program.{TurnsAll, ProgramPromise}
+use Rattle.program.specs.Program.{TurnsAll, ProgramPromise}
 
 module _ {file mem table : List ℕ} {l : Loaded} {between table′ : List ℕ} (p : LoadPromise file mem table l between table′) {w : ℕ} (q : w ≡ l .refusal) where
   -- a refused load answers zeros

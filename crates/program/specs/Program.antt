@@ -1,9 +1,12 @@
 -- What the program does with a file (document 01, "The crank program"): it loads it, and turns forward until refused or
 -- 1,000,000 turns.
-use Prim.Native.Nat.{ℕ, _<_}
+use Prim.Native.Nat.{ℕ, _<_, _≤_}
 use mathlib.Core.Path.{_≡_}
 use mathlib.Core.Logic.{_≢_}
+use mathlib.Core.Bool.{Bool}
 use mathlib.Core.List.{List}
+use lib.Dec.{eqb}
+use Rattle.word.specs.Word.{pick}
 use Rattle.step.specs.declared.Direction.the-variants.{Forward}
 use Rattle.machine.specs.Calls.{zeros}
 use Rattle.machine.specs.Batch.{BatchPromise}
@@ -32,3 +35,18 @@ pub record ProgramPromise (file mem table : List ℕ) (w : ℕ) (a : Batch) (mem
   pub refusal : w ≡ loaded .refusal
   pub refused : w ≢ 0 → (a ≡ noTurns) × (mem′ ≡ between)
   pub turned : w ≡ 0 → TurnsAll (loaded .state) between table′ a mem′
+
+-- The exit status: 3 where not all was written, 1 after a refused load.
+abbrev pub statusOf : (refusal : ℕ) (written : Bool) → ℕ
+statusOf refusal written = pick written (pick (eqb refusal 0) 0 1) 3
+
+-- The status of a run is that of load's refusal and of what was written, which no contract can say.
+pub record Ran (r : ℕ) : Type 0 where
+  pub refusal : ℕ
+  pub written : Bool
+  pub status : r ≡ statusOf refusal written
+
+-- The status for a command line of so many words: 2 where there is more than the program's name.
+pub record Exit (words r : ℕ) : Type 0 where
+  pub arguments : 1 < words → r ≡ 2
+  pub alone : words ≤ 1 → Ran r

@@ -3,10 +3,10 @@ use native.Mathlib.Omega.{arith}
 use denote.Ref.{now}
 use borrow.Author.Needs.{needs}
 use Rattle.machine.proofs.Given.{given-bounds}
-use Rattle.crank.specs.Program.{limit}
-use Rattle.crank.proofs.Joined.{Loop, loop-starts, done, most, kept, again, fewer, stop}
-use Rattle.crank.proofs.until.Statement.{statement}
-use Rattle.crank.proofs.until.Tie as tie
+use Rattle.program.specs.Program.{limit}
+use Rattle.program.proofs.Joined.{Loop, loop-starts, done, most, kept, again, fewer, stop}
+use Rattle.program.proofs.until.Statement.{statement}
+use Rattle.program.proofs.until.Tie as tie
 
 abbrev Inv-loop : tie.InvT-loop
 Inv-loop mem₀ table at₀ made₀ mem at made = Loop table at₀ mem₀ at mem made
