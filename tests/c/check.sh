@@ -3,8 +3,9 @@
 #
 # Compiles the header alone, as C and, where there is a C++ compiler, as C++;
 # looks in it for a declaration of every call that the static libraries in the
-# folder LIBRARIES export; then links roundtrip.c with both of them and runs it
-# on the images. Exits with 1 where one of these fails.
+# folder LIBRARIES export; links roundtrip.c with those of the calls and runs it
+# on the images; then does what docs/CALLS.md says. Exits with 1 where one of
+# these fails.
 
 if [ $# -lt 2 ]; then
     echo "usage: check.sh LIBRARIES IMAGE..." >&2
@@ -55,3 +56,16 @@ echo "header: $count calls"
 compile "$cc" -std=c11 -O1 -o "$scratch/roundtrip" "$folder/roundtrip.c" \
     "$libraries/libcapi.a" "$libraries/libsession.a" || fail 'roundtrip.c'
 "$scratch/roundtrip" "$@" || fail 'the round trip'
+
+# The program of docs/CALLS.md, built and run by the commands there.
+calls=$folder/../../docs/CALLS.md
+for part in include target examples; do
+    ln -s "$(cd "$folder/../.." && pwd)/$part" "$scratch/$part"
+done
+sed -n '/^```c$/,/^```$/p' "$calls" | grep -v '^```' >"$scratch/lesson.c"
+sed -n '/^```$/,/^```$/p' "$calls" | grep -v '^```' >"$scratch/shown"
+grep '^\$ ' "$scratch/shown" | sed 's/^\$ //' >"$scratch/commands"
+[ -s "$scratch/lesson.c" ] && [ -s "$scratch/commands" ] || fail 'CALLS.md has no program'
+(cd "$scratch" && sh -e commands >printed 2>&1) || fail "the program of CALLS.md: $(cat "$scratch/printed")"
+grep -v '^\$ ' "$scratch/shown" | cmp -s - "$scratch/printed" || fail 'CALLS.md shows something else'
+echo "CALLS.md: $(wc -l <"$scratch/commands") commands"
