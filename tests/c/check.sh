@@ -62,8 +62,12 @@ calls=$folder/../../docs/CALLS.md
 for part in include target examples; do
     ln -s "$(cd "$folder/../.." && pwd)/$part" "$scratch/$part"
 done
-sed -n '/^```c$/,/^```$/p' "$calls" | grep -v '^```' >"$scratch/lesson.c"
-sed -n '/^```$/,/^```$/p' "$calls" | grep -v '^```' >"$scratch/shown"
+# block KIND: what stands in the blocks of CALLS.md that are fenced by ```KIND
+block() {
+    awk -v kind="$1" '/^```/ { on = !on; wanted = on && $0 == "```" kind; next } wanted' "$calls"
+}
+block c >"$scratch/lesson.c"
+block '' >"$scratch/shown"
 grep '^\$ ' "$scratch/shown" | sed 's/^\$ //' >"$scratch/commands"
 [ -s "$scratch/lesson.c" ] && [ -s "$scratch/commands" ] || fail 'CALLS.md has no program'
 (cd "$scratch" && sh -e commands >printed 2>&1) || fail "the program of CALLS.md: $(cat "$scratch/printed")"
