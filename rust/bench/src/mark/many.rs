@@ -1,0 +1,129 @@
+//! The hand-ins of a list, a line for each in the list's order.
+
+use super::cores;
+use super::judge::Judged;
+use super::list::{self, Entry, HandIn};
+use super::progress::Progress;
+use super::report;
+use super::words::counted;
+use crate::exercise::Exercise;
+use crank::Machine;
+use crank_assembler::files;
+use std::io::Write;
+use std::path::Path;
+
+/// The most turns for one hand-in of a list, so that a slip in a count does not hold up the rest.
+const MAX_TURNS: u64 = 1_000_000_000;
+
+#[derive(Clone, Copy)]
+enum Verdict {
+    Fits,
+    DoesNotFit,
+    NotMarked,
+}
+
+/// What is said of one line of the list.
+struct Marked {
+    verdict: Verdict,
+    line: String,
+}
+
+/// Marks every hand-in of the list; gives whether all fit.
+///
+/// # Errors
+///
+/// One line, where the list can't be read or the output not be written.
+pub fn mark(
+    out: &mut impl Write,
+    list: &Path,
+    beginning: Option<&Machine>,
+) -> Result<bool, String> {
+    let entries = list::read(list)?;
+    let mut verdicts = Vec::new();
+    let mut progress = Progress::new(entries.len());
+    let work = |entry: &Entry| mark_entry(entry, beginning);
+    cores::in_order(&entries, work, |marked| {
+        verdicts.push(marked.verdict);
+        progress.erase();
+        // Each line as soon as it is known.
+        writeln!(out, "{}", marked.line)
+            .and_then(|()| out.flush())
+            .map_err(|e| files::output_fault(&e))?;
+        progress.show(verdicts.len());
+        Ok(())
+    })?;
+    progress.erase();
+    let summary = summary(&verdicts, beginning.is_some());
+    writeln!(out, "{summary}").map_err(|e| files::output_fault(&e))?;
+    Ok(verdicts.iter().all(|v| matches!(v, Verdict::Fits)))
+}
+
+fn mark_entry(entry: &Entry, beginning: Option<&Machine>) -> Marked {
+    let (name, judged) = match entry {
+        Ok(hand_in) => (hand_in.name.clone(), judge(hand_in, beginning)),
+        Err(no) => (format!("line {}", no.line), Err(no.fault.clone())),
+    };
+    let (verdict, said) = match judged {
+        Ok(judged) if judged.fits() => (Verdict::Fits, report::verdict(&judged).to_string()),
+        Ok(judged) => (Verdict::DoesNotFit, short(&judged)),
+        Err(fault) => (Verdict::NotMarked, format!("cannot be marked: {fault}")),
+    };
+    Marked {
+        verdict,
+        line: format!("{name}: {said}"),
+    }
+}
+
+fn judge(hand_in: &HandIn, beginning: Option<&Machine>) -> Result<Judged, String> {
+    let turns = hand_in.net.turns;
+    if turns > MAX_TURNS {
+        return Err(format!(
+            "net count {turns} is more than the {MAX_TURNS} that a list turns"
+        ));
+    }
+    let machine = match Exercise::open(&hand_in.path) {
+        Ok(exercise) => exercise.machine,
+        Err(fault) => {
+            // The line has the name as it is in the list, in place of the path.
+            let path = format!("{}: ", hand_in.path.display());
+            return Err(fault.strip_prefix(&path).unwrap_or(&fault).to_string());
+        }
+    };
+    Ok(Judged::new(machine, hand_in.net, beginning))
+}
+
+/// Why a hand-in does not fit, in one line.
+fn short(judged: &Judged) -> String {
+    let verdict = report::verdict(judged);
+    if !judged.all_accepted() {
+        return format!("{verdict}: {}", report::turns(judged));
+    }
+    match judged.differences.as_deref() {
+        Some([only]) => format!("{verdict}: {}", report::difference(only)),
+        Some([first, more @ ..]) => {
+            let first = report::difference(first);
+            format!("{verdict}: {first}; and {} more", more.len())
+        }
+        _ => verdict.to_string(),
+    }
+}
+
+/// How many of each verdict there are.
+fn summary(verdicts: &[Verdict], compared: bool) -> String {
+    let (mut fit, mut do_not, mut not_marked) = (0, 0, 0);
+    for verdict in verdicts {
+        match verdict {
+            Verdict::Fits => fit += 1,
+            Verdict::DoesNotFit => do_not += 1,
+            Verdict::NotMarked => not_marked += 1,
+        }
+    }
+    let all = counted(verdicts.len() as u64, "hand-in");
+    let s = if fit == 1 { "s" } else { "" };
+    let does = if do_not == 1 { "does" } else { "do" };
+    if compared {
+        format!("{all}: {fit} fit{s}, {do_not} {does} not fit, {not_marked} cannot be marked")
+    } else {
+        format!("{all}: {fit} come{s} back to start, {do_not} {does} not, {not_marked} cannot be marked")
+    }
+}

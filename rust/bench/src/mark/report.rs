@@ -1,0 +1,138 @@
+//! What is found out, in words.
+
+use super::differences::{not_zero, Difference};
+use super::judge::{Ending, Judged, MAX_ON};
+use super::words::{counted, word};
+use crank::{meaning, Call, Direction};
+use std::io::{self, Write};
+
+/// The columns that a line of several items may take.
+const WIDTH: usize = 80;
+
+/// The whole report on one hand-in.
+pub fn single(out: &mut impl Write, judged: &Judged, ending: &Ending) -> io::Result<()> {
+    writeln!(out, "{}", turns(judged))?;
+    let not = if judged.at_start {
+        "stands"
+    } else {
+        "does not stand"
+    };
+    writeln!(out, "{not} at start")?;
+    verdict_lines(out, judged)?;
+    writeln!(out, "{}", finish(ending))?;
+    let left = "left changed between start and finish";
+    match &ending.left_changed {
+        Some(list) => items(out, left, list.iter().map(change), "nothing but pc"),
+        None if judged.at_start => writeln!(out, "{left}: can't be told without a finish"),
+        None => writeln!(out, "{left}: can't be told without a start"),
+    }
+}
+
+/// What became of the turns.
+pub fn turns(judged: &Judged) -> String {
+    let net = judged.net;
+    let (way, call) = match net.direction {
+        Direction::Forward => ("forward", Call::Forward),
+        Direction::Back => ("back", Call::Back),
+    };
+    match judged.made.refusal {
+        0 if net.turns == 0 => "no turn to make: as many forward as back".to_string(),
+        0 => format!("{} {way}: all accepted", counted(net.turns, "turn")),
+        refusal => format!(
+            "turn {} of {} {way} was refused by {refusal}: {}",
+            judged.made.turns + 1,
+            net.turns,
+            meaning(refusal, call)
+        ),
+    }
+}
+
+/// The verdict in itself.
+pub fn verdict(judged: &Judged) -> &'static str {
+    match (judged.fits(), &judged.differences) {
+        (true, Some(_)) => "fits",
+        (false, Some(_)) => "does not fit",
+        (true, None) => "comes back to start",
+        (false, None) => "does not come back to start",
+    }
+}
+
+/// A place, with what should be there and what is.
+pub fn difference(d: &Difference) -> String {
+    let value = |value: Option<u32>| value.map_or("none".to_string(), word);
+    let (expected, found) = (value(d.expected), value(d.found));
+    format!("{} expected {expected}, found {found}", d.place)
+}
+
+/// The verdict with its reasons.
+fn verdict_lines(out: &mut impl Write, judged: &Judged) -> io::Result<()> {
+    let differ = judged.differences.as_deref().unwrap_or_default();
+    let mut reasons = Vec::new();
+    if !judged.all_accepted() {
+        reasons.push("not every turn was accepted".to_string());
+    }
+    if !differ.is_empty() {
+        reasons.push(counted(differ.len() as u64, "difference"));
+    }
+    let colon = if reasons.is_empty() { "" } else { ": " };
+    writeln!(out, "{}{colon}{}", verdict(judged), reasons.join(", "))?;
+    for d in differ {
+        writeln!(out, "  {}", difference(d))?;
+    }
+    match judged.differences {
+        Some(_) => Ok(()),
+        None => {
+            let list = not_zero(&judged.turned);
+            items(out, "not 0", list.iter().map(found), "nothing")
+        }
+    }
+}
+
+fn found(d: &Difference) -> String {
+    format!("{} = {}", d.place, word(d.found.unwrap_or_default()))
+}
+
+fn change(d: &Difference) -> String {
+    let value = |value: Option<u32>| word(value.unwrap_or_default());
+    format!("{} {} -> {}", d.place, value(d.expected), value(d.found))
+}
+
+/// Where the hand-in's own code leads.
+fn finish(ending: &Ending) -> String {
+    let not = "the hand-in does not stand at finish";
+    match (ending.at_finish, ending.on.turns, ending.on.refusal) {
+        (true, 0, _) => "the hand-in stands at finish".to_string(),
+        (true, 1, _) => format!("{not}; 1 turn more leads there"),
+        (true, turns, _) => format!("{not}; {turns} turns more lead there"),
+        (false, _, 0) => format!("{not}, nor do {MAX_ON} turns more lead there"),
+        (false, turns, refusal) => format!(
+            "{not}; turn {} from there is refused by {refusal}: {}",
+            turns + 1,
+            meaning(refusal, Call::Forward)
+        ),
+    }
+}
+
+/// Items behind a heading, in lines of no more than the width.
+fn items(
+    out: &mut impl Write,
+    heading: &str,
+    items: impl Iterator<Item = String>,
+    none: &str,
+) -> io::Result<()> {
+    let mut line = format!("{heading}:");
+    let mut separator = "";
+    for item in items {
+        line += separator;
+        if line.len() + 1 + item.len() >= WIDTH {
+            writeln!(out, "{line}")?;
+            line = " ".to_string();
+        }
+        line = format!("{line} {item}");
+        separator = ",";
+    }
+    match separator {
+        "" => writeln!(out, "{line} {none}"),
+        _ => writeln!(out, "{line}"),
+    }
+}
