@@ -23,8 +23,13 @@ pub fn single(out: &mut impl Write, judged: &Judged, ending: &Ending) -> io::Res
     let left = "left changed between start and finish";
     match &ending.left_changed {
         Some(list) => items(out, left, list.iter().map(change), "nothing but pc"),
-        None if judged.at_start => writeln!(out, "{left}: can't be told without a finish"),
-        None => writeln!(out, "{left}: can't be told without a start"),
+        None if !judged.at_start => {
+            writeln!(
+                out,
+                "{left}: cannot be told, since it does not stand at start"
+            )
+        }
+        None => writeln!(out, "{left}: cannot be told, since there is no finish"),
     }
 }
 
@@ -64,27 +69,30 @@ pub fn difference(d: &Difference) -> String {
     format!("{} expected {expected}, found {found}", d.place)
 }
 
-/// The verdict with its reasons.
+/// The verdict with its reasons; where there is nothing to compare with, what is not 0.
 fn verdict_lines(out: &mut impl Write, judged: &Judged) -> io::Result<()> {
-    let differ = judged.differences.as_deref().unwrap_or_default();
-    let mut reasons = Vec::new();
-    if !judged.all_accepted() {
-        reasons.push("not every turn was accepted".to_string());
-    }
-    if !differ.is_empty() {
-        reasons.push(counted(differ.len() as u64, "difference"));
-    }
-    let colon = if reasons.is_empty() { "" } else { ": " };
-    writeln!(out, "{}{colon}{}", verdict(judged), reasons.join(", "))?;
-    for d in differ {
-        writeln!(out, "  {}", difference(d))?;
-    }
-    match judged.differences {
-        Some(_) => Ok(()),
+    writeln!(out, "{}{}", verdict(judged), reason(judged))?;
+    match &judged.differences {
+        Some(list) => list
+            .iter()
+            .try_for_each(|d| writeln!(out, "  {}", difference(d))),
         None => {
             let list = not_zero(&judged.turned);
             items(out, "not 0", list.iter().map(found), "nothing")
         }
+    }
+}
+
+/// What the verdict rests on beyond the lines before it.
+fn reason(judged: &Judged) -> String {
+    let count = judged.differences.as_ref().map(|list| list.len() as u64);
+    let refused = ": not every turn was accepted";
+    match (judged.all_accepted(), count) {
+        (true, None | Some(0)) => String::new(),
+        (true, Some(count)) => format!(": {}", counted(count, "difference")),
+        (false, None) => refused.to_string(),
+        (false, Some(0)) => format!("{refused}, though nothing differs"),
+        (false, Some(count)) => format!("{refused}, and {}", counted(count, "difference")),
     }
 }
 

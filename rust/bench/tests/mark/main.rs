@@ -1,0 +1,11 @@
+//! `bench mark` as a marker runs it.
+
+mod cases;
+mod expected;
+mod faults;
+mod lists;
+mod right;
+mod scratch;
+mod speed;
+mod students;
+mod wrong;
