@@ -1,7 +1,7 @@
 //! Wrong hand-ins: every kind is told, as refused on the way or as differing at the end.
 
 use crate::expected;
-use crate::scratch::{Folder, Ran};
+use crate::scratch::{example, Folder, Ran};
 use crate::students::{beginning, exercises, file, play};
 use crank::Machine;
 use crank_model::rng::{rounds, Rng};
@@ -141,7 +141,10 @@ fn wrong_hand_ins() {
     let folder = Folder::new("wrong");
     let mut rng = Rng::new(102);
     let mut seen: BTreeMap<(Kind, bool), u32> = BTreeMap::new();
-    for exercise in &exercises(&mut rng, rounds(30)) {
+    let mut exercises = exercises(&mut rng, rounds(30));
+    // Its data words hold addresses and coins: a wrong one is refused now and then.
+    exercises.extend(vec![example("mux"); 12]);
+    for exercise in &exercises {
         for kind in KINDS.iter().cycle().take(6 * KINDS.len()) {
             let beginning = beginning(&mut rng, exercise);
             let mut machine = beginning.clone();
