@@ -13,7 +13,6 @@ mod words;
 
 use crate::exercise::Exercise;
 use arguments::Asked;
-use counts::Net;
 use crank::Machine;
 use crank_assembler::files;
 use judge::{Ending, Judged};
@@ -47,38 +46,30 @@ Status: 0 it fits, or all do; 1 not so; 2 bad input.
 /// One line on what is wrong with the input.
 pub fn run(arguments: &[OsString]) -> Result<u8, String> {
     let mut out = BufWriter::new(io::stdout().lock());
-    let all_fit = match arguments::read(arguments)? {
-        Asked::Help => out.write_all(HELP.as_bytes()).map(|()| true),
+    let fits = mark(&mut out, arguments::read(arguments)?)?;
+    out.flush().map_err(|e| files::output_fault(&e))?;
+    Ok(if fits { 0 } else { DOES_NOT_FIT })
+}
+
+/// Gives whether all that is marked fits.
+fn mark(out: &mut impl Write, asked: Asked) -> Result<bool, String> {
+    let fault = |e: io::Error| files::output_fault(&e);
+    match asked {
+        Asked::Help => out.write_all(HELP.as_bytes()).map_err(fault).map(|()| true),
+        Asked::List { list, from } => many::mark(out, list, open(from)?.as_ref()),
         Asked::One { hand_in, net, from } => {
             let beginning = open(from)?;
             let hand_in = Exercise::open(hand_in)?.machine;
-            one(&mut out, hand_in, net, beginning.as_ref())
+            let judged = Judged::new(hand_in.clone(), net, beginning.as_ref());
+            let ending = Ending::new(hand_in, &judged);
+            report::single(out, &judged, &ending).map_err(fault)?;
+            Ok(judged.fits())
         }
-        Asked::List { list, from } => {
-            let beginning = open(from)?;
-            Ok(many::mark(&mut out, list, beginning.as_ref())?)
-        }
-    };
-    let all_fit = all_fit.and_then(|all_fit| out.flush().map(|()| all_fit));
-    let all_fit = all_fit.map_err(|e| files::output_fault(&e))?;
-    Ok(if all_fit { 0 } else { DOES_NOT_FIT })
+    }
 }
 
 fn open(beginning: Option<&Path>) -> Result<Option<Machine>, String> {
     beginning
         .map(|path| Exercise::open(path).map(|exercise| exercise.machine))
         .transpose()
-}
-
-/// The report on a single hand-in; gives whether it fits.
-fn one(
-    out: &mut impl Write,
-    hand_in: Machine,
-    net: Net,
-    beginning: Option<&Machine>,
-) -> io::Result<bool> {
-    let judged = Judged::new(hand_in.clone(), net, beginning);
-    let ending = Ending::new(hand_in, &judged);
-    report::single(out, &judged, &ending)?;
-    Ok(judged.fits())
 }

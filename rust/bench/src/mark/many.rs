@@ -15,7 +15,7 @@ use std::path::Path;
 /// The most turns for one hand-in of a list, so that a slip in a count does not hold up the rest.
 const MAX_TURNS: u64 = 1_000_000_000;
 
-#[derive(Clone, Copy)]
+#[derive(Clone, Copy, PartialEq)]
 enum Verdict {
     Fits,
     DoesNotFit,
@@ -55,7 +55,7 @@ pub fn mark(
     progress.erase();
     let summary = summary(&verdicts, beginning.is_some());
     writeln!(out, "{summary}").map_err(|e| files::output_fault(&e))?;
-    Ok(verdicts.iter().all(|v| matches!(v, Verdict::Fits)))
+    Ok(verdicts.iter().all(|v| *v == Verdict::Fits))
 }
 
 fn mark_entry(entry: &Entry, beginning: Option<&Machine>) -> Marked {
@@ -110,20 +110,19 @@ fn short(judged: &Judged) -> String {
 
 /// How many of each verdict there are.
 fn summary(verdicts: &[Verdict], compared: bool) -> String {
-    let (mut fit, mut do_not, mut not_marked) = (0, 0, 0);
-    for verdict in verdicts {
-        match verdict {
-            Verdict::Fits => fit += 1,
-            Verdict::DoesNotFit => do_not += 1,
-            Verdict::NotMarked => not_marked += 1,
-        }
-    }
+    let number = |verdict| verdicts.iter().filter(|v| **v == verdict).count();
     let all = counted(verdicts.len() as u64, "hand-in");
-    let s = if fit == 1 { "s" } else { "" };
-    let does = if do_not == 1 { "does" } else { "do" };
-    if compared {
-        format!("{all}: {fit} fit{s}, {do_not} {does} not fit, {not_marked} cannot be marked")
-    } else {
-        format!("{all}: {fit} come{s} back to start, {do_not} {does} not, {not_marked} cannot be marked")
-    }
+    let fit = match (number(Verdict::Fits), compared) {
+        (1, true) => "1 fits".to_string(),
+        (1, false) => "1 comes back to start".to_string(),
+        (fit, true) => format!("{fit} fit"),
+        (fit, false) => format!("{fit} come back to start"),
+    };
+    let verb = if compared { " fit" } else { "" };
+    let do_not = match number(Verdict::DoesNotFit) {
+        1 => format!("1 does not{verb}"),
+        do_not => format!("{do_not} do not{verb}"),
+    };
+    let not_marked = number(Verdict::NotMarked);
+    format!("{all}: {fit}, {do_not}, {not_marked} cannot be marked")
 }

@@ -12,12 +12,12 @@ const WIDTH: usize = 80;
 /// The whole report on one hand-in.
 pub fn single(out: &mut impl Write, judged: &Judged, ending: &Ending) -> io::Result<()> {
     writeln!(out, "{}", turns(judged))?;
-    let not = if judged.at_start {
+    let stands = if judged.at_start {
         "stands"
     } else {
         "does not stand"
     };
-    writeln!(out, "{not} at start")?;
+    writeln!(out, "{stands} at start")?;
     verdict_lines(out, judged)?;
     writeln!(out, "{}", finish(ending))?;
     let left = "left changed between start and finish";

@@ -174,12 +174,12 @@ left changed between start and finish: cannot be told, since there is no finish
     assert_eq!(ran, Ran::quiet(1, report));
 }
 
-/// Two jumps over one word that take each other's offset: for ever.
+/// Two jumps, each the other's landing: for ever.
 #[test]
 fn no_end() {
     let code = vec![0x1A00_0000, 0x0340_0001, 0x0500_FFFF, 0x0500_FFFF];
     let mut hand_in = Machine::new(4, code, Vec::new());
-    // Between the two jumps, where no start leads.
+    // Where no start leads.
     hand_in.record.regs[0] = 3;
     let ran = mark(&hand_in, 1, 1, None);
     let report = "\

@@ -124,8 +124,7 @@ pub fn head(beginning: &Machine, hand_in: &Machine, forward: u64, back: u64) -> 
             meaning(refusal, call)
         ),
     };
-    let at_start = turned.state.turn_refused_by_12();
-    let start = if at_start {
+    let start = if at_start(&turned.state) {
         "stands at start"
     } else {
         "does not stand at start"
@@ -141,14 +140,8 @@ pub fn head(beginning: &Machine, hand_in: &Machine, forward: u64, back: u64) -> 
     vec![turns, start.to_string(), verdict]
 }
 
-trait Start {
-    fn turn_refused_by_12(&self) -> bool;
-}
-
-impl Start for Machine {
-    fn turn_refused_by_12(&self) -> bool {
-        self.clone().turn(Direction::Back) == 12
-    }
+fn at_start(machine: &Machine) -> bool {
+    machine.clone().turn(Direction::Back) == 12
 }
 
 /// The lines on finish and on what is left changed, each in one piece.
@@ -175,7 +168,7 @@ pub fn tail(hand_in: &Machine, forward: u64, back: u64) -> Vec<String> {
             )
         }
     };
-    let left = match (start.turn_refused_by_12(), refusal) {
+    let left = match (at_start(&start), refusal) {
         (false, _) => "cannot be told, since it does not stand at start".to_string(),
         (true, 12) => changes(&start, &end),
         (true, _) => "cannot be told, since there is no finish".to_string(),
