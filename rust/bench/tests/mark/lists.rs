@@ -13,7 +13,7 @@ fn hand_ins(folder: &Folder) {
         folder.write(name, machine.save().expect("an image"));
     };
     write("right.img", |_| {});
-    write("anna and ben, ex 3.img", |_| {});
+    write("group 4, exercise 3.img", |_| {});
     write("0.img", |_| {});
     write("register.img", |m| m.record.regs[6] += 2);
     write("registers.img", |m| m.record.regs[8..].fill(65_536));
@@ -45,7 +45,10 @@ const LINES: [(&str, &str); 33] = [
     ("  right.img\t0x107 , 0x100  ", "right.img: fits"),
     ("# right.img 7 1", ""),
     ("", ""),
-    ("anna and ben, ex 3.img 7 0", "anna and ben, ex 3.img: fits"),
+    (
+        "group 4, exercise 3.img 7 0",
+        "group 4, exercise 3.img: fits",
+    ),
     ("0.img 7 0", "0.img: fits"),
     ("preface.img 7 0", "preface.img: fits"),
     ("folder/inner.img 7 0", "folder/inner.img: fits"),
@@ -109,8 +112,8 @@ const LINES: [(&str, &str); 33] = [
         "table.img: does not fit: N expected 0, found 1; and 9 more",
     ),
     (
-        "dora.img 7 0",
-        "dora.img: cannot be marked: No such file or directory",
+        "missing.img 7 0",
+        "missing.img: cannot be marked: No such file or directory",
     ),
     ("folder 7 0", "folder: cannot be marked: Is a directory"),
     (
