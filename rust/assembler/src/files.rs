@@ -14,20 +14,28 @@ const MAX_SOURCE: usize = 4 << 20;
 ///
 /// A line that says why it can't be read: it is missing, a folder, too long.
 pub fn read(path: &Path) -> Result<Vec<u8>, String> {
-    let fault = |e: io::Error| format!("{}: {}", path.display(), reason(&e));
-    let file = File::open(path).map_err(fault)?;
+    File::open(path)
+        .map_err(|e| reason(&e))
+        .and_then(read_from)
+        .map_err(|reason| format!("{}: {reason}", path.display()))
+}
+
+/// All that can be read.
+///
+/// # Errors
+///
+/// The reason why it can't be, without a name.
+pub fn read_from(input: impl Read) -> Result<Vec<u8>, String> {
     let mut bytes = Vec::new();
     // One byte more than is taken, so that a longer file shows, even an endless one.
-    file.take(MAX_SOURCE as u64 + 1)
+    input
+        .take(MAX_SOURCE as u64 + 1)
         .read_to_end(&mut bytes)
-        .map_err(fault)?;
-    if bytes.len() > MAX_SOURCE {
-        return Err(format!(
-            "{}: longer than {MAX_SOURCE} bytes",
-            path.display()
-        ));
+        .map_err(|e| reason(&e))?;
+    match bytes.len() > MAX_SOURCE {
+        true => Err(format!("longer than {MAX_SOURCE} bytes")),
+        false => Ok(bytes),
     }
-    Ok(bytes)
 }
 
 /// Writes the whole file or leaves what was there: into a new file beside it, which then takes its

@@ -25,7 +25,7 @@ impl Exercise {
             .is_some_and(|extension| extension == "qasm")
         {
             let source = String::from_utf8(bytes).map_err(|_| format!("{name}: is no text"))?;
-            bytes = assemble(&source).map_err(|e| format!("{name}: {e}"))?;
+            bytes = assemble(&source).map_err(|e| format!("{name}: {e}"))?.image;
         }
         let machine = Machine::load(&bytes).map_err(|refusal| {
             let why = meaning(refusal, Call::Load);

@@ -1,0 +1,232 @@
+//! Reading a source: its words, labels, nodes and settings, with operands left as they are written.
+
+use crate::forms::{register_number, REGISTERS};
+use crate::text::{
+    check_name, leading_label, lines, number, operands, quoted, split_item, split_word,
+    without_comment,
+};
+use crate::{preface, Checked, Error};
+use crank::{MAX_NODES, MAX_WORDS};
+use std::collections::HashMap;
+
+/// A section of the memory, by its place among the words.
+#[derive(Clone, Copy, Default, PartialEq, Eq)]
+pub enum Section {
+    #[default]
+    Code,
+    Data,
+}
+
+/// A memory word as written.
+pub enum Word<'a> {
+    Instruction(&'a str),
+    Value(&'a str),
+    Zero,
+}
+
+/// `.node`, with its fields as written.
+pub struct Node<'a> {
+    pub line: usize,
+    /// None where it is written by number.
+    pub name: Option<&'a str>,
+    pub fields: &'a str,
+}
+
+/// What a line gives its first value: a register, or qifv or qifw.
+#[derive(Clone, Copy, PartialEq, Eq)]
+pub enum Place {
+    Register(usize),
+    Qifv,
+    Qifw,
+}
+
+/// A line that sets a first value.
+pub struct Setting<'a> {
+    pub line: usize,
+    pub place: Place,
+    pub value: &'a str,
+}
+
+/// A source, read but not resolved.
+#[derive(Default)]
+pub struct Source<'a> {
+    pub code: Vec<(usize, Word<'a>)>,
+    pub data: Vec<(usize, Word<'a>)>,
+    section: Section,
+    /// In the order written: section and place in it.
+    pub labels: Vec<(&'a str, Section, usize)>,
+    label_places: HashMap<&'a str, usize>,
+    pub nodes: Vec<Node<'a>>,
+    pub node_numbers: HashMap<&'a str, u32>,
+    pub settings: Vec<Setting<'a>>,
+    pub preface: Vec<u8>,
+    /// The number of the last line, where what concerns the whole is reported.
+    pub last: usize,
+}
+
+impl<'a> Source<'a> {
+    /// Reads all lines.
+    pub fn read(text: &'a str) -> Result<Source<'a>, Error> {
+        let mut source = Source {
+            last: 1,
+            ..Source::default()
+        };
+        for (index, text) in lines(text).enumerate() {
+            let line = index + 1;
+            source.last = line;
+            source
+                .line(text)
+                .map_err(|message| Error { line, message })?;
+        }
+        Ok(source)
+    }
+
+    /// Labels, then at most one instruction or directive.
+    fn line(&mut self, text: &'a str) -> Checked<()> {
+        let mut rest = without_comment(text)?.trim();
+        while let Some((name, after)) = leading_label(rest) {
+            self.label(name)?;
+            rest = after;
+        }
+        if rest.is_empty() {
+            return Ok(());
+        }
+        if let Some(directive) = rest.strip_prefix('.') {
+            return self.directive(directive);
+        }
+        if self.section == Section::Data {
+            return Err("an instruction in the data section; write .code before it".into());
+        }
+        self.push(Word::Instruction(rest))
+    }
+
+    fn label(&mut self, name: &'a str) -> Checked<()> {
+        check_name(name)?;
+        let place = match self.section {
+            Section::Code => self.code.len(),
+            Section::Data => self.data.len(),
+        };
+        if self.label_places.insert(name, self.labels.len()).is_some() {
+            return Err(format!("the label {name} is defined twice"));
+        }
+        self.labels.push((name, self.section, place));
+        Ok(())
+    }
+
+    /// The address of a label; K is known when all lines are read.
+    pub fn address(&self, label: &str) -> Option<usize> {
+        let (_, section, place) = self.labels[*self.label_places.get(label)?];
+        Some(match section {
+            Section::Code => place,
+            Section::Data => self.code.len() + place,
+        })
+    }
+
+    fn push(&mut self, word: Word<'a>) -> Checked<()> {
+        if self.code.len() + self.data.len() == MAX_WORDS {
+            return Err(format!("more than {MAX_WORDS} memory words"));
+        }
+        let words = match self.section {
+            Section::Code => &mut self.code,
+            Section::Data => &mut self.data,
+        };
+        words.push((self.last, word));
+        Ok(())
+    }
+
+    fn directive(&mut self, text: &'a str) -> Checked<()> {
+        let (name, rest) = split_word(text);
+        let lower = name.to_ascii_lowercase();
+        match lower.as_str() {
+            "code" | "data" if !rest.is_empty() => Err(format!(".{lower} takes no operand")),
+            "code" => {
+                self.section = Section::Code;
+                Ok(())
+            }
+            "data" => {
+                self.section = Section::Data;
+                Ok(())
+            }
+            "word" if rest.is_empty() => Err(".word takes at least one value".into()),
+            "word" => operands(rest)?
+                .into_iter()
+                .try_for_each(|value| self.push(Word::Value(value))),
+            "space" => self.space(rest),
+            "node" => self.node(rest),
+            "reg" => self.register(rest),
+            "qifv" if rest.is_empty() => Err(".qifv takes a node, by name or number".into()),
+            "qifv" => self.setting(Place::Qifv, rest),
+            "qifw" if rest.is_empty() => Err(".qifw takes a number".into()),
+            "qifw" => self.setting(Place::Qifw, rest),
+            "preface" => {
+                self.preface.extend(preface::read(rest)?);
+                Ok(())
+            }
+            _ => Err(format!("unknown directive {}", quoted(&format!(".{name}")))),
+        }
+    }
+
+    fn space(&mut self, rest: &str) -> Checked<()> {
+        if rest.is_empty() {
+            return Err(".space takes a number of words".into());
+        }
+        let count = number(rest)?;
+        if !(1..=MAX_WORDS as i64).contains(&count) {
+            return Err(format!(".space takes 1 to {MAX_WORDS} words, not {count}"));
+        }
+        (0..count).try_for_each(|_| self.push(Word::Zero))
+    }
+
+    /// A name that is a number must be the number that the node gets.
+    fn node(&mut self, rest: &'a str) -> Checked<()> {
+        let (name, fields) = split_item(rest);
+        if name.is_empty() {
+            return Err(".node takes a name, then fields such as nx=2".into());
+        }
+        if self.nodes.len() == MAX_NODES {
+            return Err(format!("more than {MAX_NODES} nodes"));
+        }
+        let place = self.nodes.len() + 1;
+        let by_number = name.starts_with(|c: char| c.is_ascii_digit());
+        if by_number && number(name)? != place as i64 {
+            return Err(format!("this is node {place}, but it is written as {name}"));
+        }
+        if !by_number {
+            check_name(name)?;
+            if self.node_numbers.insert(name, place as u32).is_some() {
+                return Err(format!("the node {name} is defined twice"));
+            }
+        }
+        self.nodes.push(Node {
+            line: self.last,
+            name: (!by_number).then_some(name),
+            fields,
+        });
+        Ok(())
+    }
+
+    fn register(&mut self, rest: &'a str) -> Checked<()> {
+        let (name, value) = split_item(rest);
+        if value.is_empty() || value.starts_with('=') {
+            return Err(".reg takes a register and a value, as in .reg r1 5".into());
+        }
+        match register_number(name) {
+            Some(register) => self.setting(Place::Register(register), value),
+            None => Err(format!("{} is not a register", quoted(name))),
+        }
+    }
+
+    fn setting(&mut self, place: Place, value: &'a str) -> Checked<()> {
+        if self.settings.iter().any(|set| set.place == place) {
+            let name = match place {
+                Place::Register(register) => REGISTERS[register],
+                Place::Qifv => "qifv",
+                Place::Qifw => "qifw",
+            };
+            return Err(format!("{name} is set twice"));
+        }
+        let line = self.last;
+        self.settings.push(Setting { line, place, value });
+        Ok(())
+    }
+}

@@ -1,0 +1,87 @@
+//! What is taken but will be refused in a turn: each warning is true of every run.
+
+use crate::forms::{Form, Instruction};
+use crate::source::{Source, Word};
+use crate::Warning;
+use crank::Machine;
+
+/// The warnings on a source that became `machine`, in the order of lines.
+pub fn of(source: &Source<'_>, machine: &Machine) -> Vec<Warning> {
+    let mut warnings = addresses(source, machine);
+    warnings.extend(no_node(source, machine));
+    warnings.extend(unpaired(source, machine));
+    warnings.sort_by_key(|warning| warning.line);
+    warnings
+}
+
+/// The instructions with their lines; a word written as a number is nobody's mistake.
+fn instructions<'a>(
+    source: &'a Source<'_>,
+    machine: &'a Machine,
+) -> impl Iterator<Item = (usize, Instruction)> + 'a {
+    let words = source.code.iter().zip(&machine.mem);
+    words.filter_map(|((line, written), word)| match written {
+        Word::Instruction(_) => Some((*line, Instruction::of(*word)?)),
+        _ => None,
+    })
+}
+
+/// Every `ld` whose address is no data word.
+fn addresses(source: &Source<'_>, machine: &Machine) -> Vec<Warning> {
+    let (k, m) = (machine.record.k, machine.record.m);
+    let data = match m - k {
+        0 => "there are no data words".to_string(),
+        _ => format!("data words are {k} to {}", m - 1),
+    };
+    let outside = |address: &i64| !(i64::from(k)..i64::from(m)).contains(address);
+    instructions(source, machine)
+        .filter_map(|(line, instruction)| {
+            let address = instruction.address().filter(outside)?;
+            let message = format!("{data}, so address {address} is refused by 15 in a turn");
+            Some(Warning { line, message })
+        })
+        .collect()
+}
+
+/// The first qif or fiq, where qifv is no node: only these words change it.
+fn no_node(source: &Source<'_>, machine: &Machine) -> Option<Warning> {
+    let (qifv, n) = (machine.record.qifv, machine.record.n);
+    if (1..=n).contains(&qifv) {
+        return None;
+    }
+    let (line, instruction) = instructions(source, machine)
+        .find(|(_, instruction)| matches!(instruction.form.name, "qif" | "fiq"))?;
+    let name = instruction.form.name;
+    let why = match (qifv, n) {
+        (_, 0) => "there is no .node".to_string(),
+        (0, _) => "there is no .qifv".to_string(),
+        _ => format!("qifv is {qifv}, nodes are 1 to {n}"),
+    };
+    let message = format!("{why}, so this {name} is refused by 17 in a turn");
+    Some(Warning { line, message })
+}
+
+/// The lowest node with an unpaired link, as the proved check tells it.
+fn unpaired(source: &Source<'_>, machine: &Machine) -> Option<Warning> {
+    // The check looks at the code first, so the table is checked with code that is in order.
+    let start = Form::named("start")?;
+    let values = Vec::new();
+    let code = Instruction {
+        form: start,
+        values,
+    }
+    .word()
+    .ok()?;
+    let checked = Machine::new(1, vec![code], machine.table.clone()).check();
+    if checked.refusal != 8 {
+        return None;
+    }
+    let node = source.nodes.get((checked.place as usize).checked_sub(1)?)?;
+    let name = match node.name {
+        Some(name) => name.to_string(),
+        None => checked.place.to_string(),
+    };
+    let message = format!("a link of node {name} is not paired: no link leads back");
+    let line = node.line;
+    Some(Warning { line, message })
+}
