@@ -30,7 +30,7 @@ pub fn disassemble(file: &[u8]) -> Result<String, u32> {
     source.text.push('\n');
     source.record(&machine.record);
     source.nodes(&machine.table);
-    Ok(source.text)
+    Ok(source.text.trim_end().to_string() + "\n")
 }
 
 /// The source as far as it is written, and the addresses that it names by labels.

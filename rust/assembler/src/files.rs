@@ -6,7 +6,7 @@ use std::path::{Path, PathBuf};
 use std::process;
 
 /// The most bytes of a source that are read; any image is far shorter.
-const MAX_SOURCE: usize = 4 << 20;
+pub const MAX_SOURCE: usize = 4 << 20;
 
 /// The whole file.
 ///

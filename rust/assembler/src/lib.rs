@@ -87,7 +87,7 @@ type Checked<T> = Result<T, String>;
 ///
 /// # Errors
 ///
-/// The first line that is not understood, or that the instruction set or the image does not allow.
+/// A line that is not understood, or that the instruction set or the image does not allow.
 pub fn assemble(source: &str) -> Result<Assembled, Error> {
     source::Source::read(source)?.assembled()
 }
