@@ -20,7 +20,7 @@ const ROW: usize = 8;
 pub fn disassemble(file: &[u8]) -> Result<String, u32> {
     let machine = Machine::load(file)?;
     let Record { k, m, n, .. } = machine.record;
-    let mut source = Listed::default();
+    let mut source = Disassembly::default();
     source.text = format!("; K {k}, M {m}, N {n}\n");
     for text in preface::write(calls::preface(file)) {
         source.line("", &format!(".preface {text}"));
@@ -35,12 +35,12 @@ pub fn disassemble(file: &[u8]) -> Result<String, u32> {
 
 /// The source as far as it is written, and the addresses that it names by labels.
 #[derive(Default)]
-struct Listed {
+struct Disassembly {
     text: String,
     labels: HashSet<usize>,
 }
 
-impl Listed {
+impl Disassembly {
     fn line(&mut self, label: &str, statement: &str) {
         writeln!(self.text, "{label:7} {statement}").expect("a string takes all");
     }

@@ -48,15 +48,23 @@ pub fn write(path: &Path, bytes: &[u8]) -> Result<(), String> {
     let fault = |e: io::Error| format!("{}: {}", path.display(), reason(&e));
     // What a link names is written, not the link; a device or a folder is left alone.
     let target = fs::canonicalize(path).unwrap_or_else(|_| path.to_path_buf());
-    match fs::metadata(&target) {
-        Ok(found) if !found.is_file() => {
+    let old = fs::metadata(&target).ok();
+    match &old {
+        Some(old) if !old.is_file() => {
             return Err(format!("{}: is no regular file", path.display()))
+        }
+        // The new file would take its place all the same.
+        Some(old) if old.permissions().readonly() => {
+            return Err(format!("{}: is read-only", path.display()))
         }
         _ => {}
     }
     let beside = beside(&target);
     let written = File::create_new(&beside)
         .and_then(|mut file| {
+            if let Some(old) = &old {
+                file.set_permissions(old.permissions())?;
+            }
             file.write_all(bytes)?;
             file.sync_all()
         })

@@ -45,7 +45,7 @@ impl fmt::Display for Error {
 
 impl std::error::Error for Error {}
 
-/// What is taken, but will be refused in a turn.
+/// What is taken, but refused in every turn that comes to it.
 #[derive(Clone, Debug, PartialEq, Eq)]
 pub struct Warning {
     pub line: usize,

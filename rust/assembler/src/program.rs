@@ -6,7 +6,7 @@ use std::env;
 use std::ffi::OsString;
 use std::fs;
 use std::io::{self, Write};
-use std::path::{Path, PathBuf};
+use std::path::PathBuf;
 use std::process::ExitCode;
 
 /// The status where the work failed: a refused source, a file that can't be read or written.
@@ -108,11 +108,13 @@ fn named(argument: OsString) -> Option<PathBuf> {
 
 /// The output must not take the place of the input.
 fn apart(arguments: &Arguments) -> Result<(), String> {
-    let place = |path: &Option<PathBuf>| fs::canonicalize(path.as_ref()?).ok();
-    match (place(&arguments.input), place(&arguments.output)) {
-        (Some(input), Some(output)) if input == output => Err(format!(
+    let (Some(input), Some(output)) = (&arguments.input, &arguments.output) else {
+        return Ok(());
+    };
+    match (fs::canonicalize(input), fs::canonicalize(output)) {
+        (Ok(read), Ok(written)) if read == written => Err(format!(
             "{}: is read, and so it is not written",
-            input.display()
+            output.display()
         )),
         _ => Ok(()),
     }
@@ -147,7 +149,7 @@ impl Arguments {
     /// A line that says why it can't be written.
     pub fn write(&self, bytes: &[u8]) -> Result<(), String> {
         match &self.output {
-            Some(path) => files::write(Path::new(path), bytes),
+            Some(path) => files::write(path, bytes),
             None => print(bytes),
         }
     }

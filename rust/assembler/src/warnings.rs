@@ -1,4 +1,4 @@
-//! What is taken but will be refused in a turn: each warning is true of every run.
+//! What is taken, but refused in every turn that comes to it.
 
 use crate::forms::{Form, Instruction};
 use crate::source::{Source, Word};
@@ -52,9 +52,8 @@ fn no_node(source: &Source<'_>, machine: &Machine) -> Option<Warning> {
     let (line, instruction) = instructions(source, machine)
         .find(|(_, instruction)| matches!(instruction.form.name, "qif" | "fiq"))?;
     let name = instruction.form.name;
-    let why = match (qifv, n) {
-        (_, 0) => "there is no .node".to_string(),
-        (0, _) => "there is no .qifv".to_string(),
+    let why = match n {
+        0 => "there is no .node".to_string(),
         _ => format!("qifv is {qifv}, nodes are 1 to {n}"),
     };
     let message = format!("{why}, so this {name} is refused by 17 in a turn");

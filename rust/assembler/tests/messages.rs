@@ -259,7 +259,7 @@ fn warnings() {
         ),
         (
             "qif r1\nfiq r1\n.node 1",
-            &["line 1: warning: there is no .qifv, so this qif is refused by 17 in a turn"],
+            &["line 1: warning: qifv is 0, nodes are 1 to 1, so this qif is refused by 17 in a turn"],
         ),
         (
             "qif r1\n.node 1\n.qifv 2",

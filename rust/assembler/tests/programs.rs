@@ -277,12 +277,30 @@ fn an_output_over_an_old_file() {
     let image = fs::read(folder.path("a.img")).unwrap();
     assert_eq!(fs::read(folder.path("old.img")).unwrap(), image);
     assert_eq!(folder.names(), before);
-    let ran = folder.run("assemble -o ./a.qasm a.qasm");
-    assert_eq!(ran.status, 2);
-    assert!(ran
-        .error
-        .ends_with("a.qasm: is read, and so it is not written\n"));
+    let itself = "assemble: ./a.qasm: is read, and so it is not written";
+    refused(&folder, &[("assemble -o ./a.qasm a.qasm", 2, itself)]);
     assert_eq!(fs::read_to_string(folder.path("a.qasm")).unwrap(), GOOD);
+}
+
+#[test]
+fn what_an_old_file_allows() {
+    let folder = folder();
+    folder.put("old.img", "old");
+    assert_eq!(
+        folder
+            .run("chmod 640 old.img; assemble -o old.img a.qasm")
+            .status,
+        0
+    );
+    let mode = folder.run("ls -l old.img | cut -c 1-10").output;
+    assert_eq!(mode, b"-rw-r-----\n");
+    folder.put("old.img", "old");
+    let line = "assemble: old.img: is read-only";
+    refused(
+        &folder,
+        &[("chmod 440 old.img; assemble -o old.img a.qasm", 1, line)],
+    );
+    assert_eq!(fs::read(folder.path("old.img")).unwrap(), b"old");
 }
 
 #[test]

@@ -1,0 +1,27 @@
+//! The samples of `docs/ASSEMBLER.md` are what the programs write.
+
+use crank_assembler::{assemble, disassemble, listing};
+use std::fs;
+use std::path::Path;
+
+/// The code blocks of the document.
+fn blocks() -> Vec<String> {
+    let path = Path::new(env!("CARGO_MANIFEST_DIR")).join("../../docs/ASSEMBLER.md");
+    let text = fs::read_to_string(path).expect("the document");
+    let parts = text.split("```").skip(1).step_by(2);
+    parts
+        .map(|part| part.trim_start_matches('\n').to_string())
+        .collect()
+}
+
+#[test]
+fn samples() {
+    let [source, _output, rows, disassembled] = &blocks()[..] else {
+        panic!("the document has other blocks");
+    };
+    let assembled = assemble(source).expect("the example");
+    assert_eq!(assembled.warnings, []);
+    assert_eq!(assembled.image.len(), 7 + 288);
+    assert!(listing(source, &assembled).starts_with(rows.as_str()));
+    assert_eq!(disassemble(&assembled.image).as_ref(), Ok(disassembled));
+}
