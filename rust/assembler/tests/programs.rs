@@ -77,45 +77,96 @@ fn help() {
     refused(&folder, &[("assemble --help > /dev/full", 1, full)]);
 }
 
+/// Arguments that are not understood, and a name that looks like an option.
+const ARGUMENTS: &[(&str, i32, &str)] = &[
+    (
+        "assemble --list a.qasm",
+        2,
+        "assemble: unknown option --list; see assemble --help",
+    ),
+    (
+        "assemble -x",
+        2,
+        "assemble: unknown option -x; see assemble --help",
+    ),
+    (
+        "disassemble --listing a.img",
+        2,
+        "disassemble: unknown option --listing; see disassemble --help",
+    ),
+    (
+        "assemble a.qasm b.qasm",
+        2,
+        "assemble: one file is taken, not also b.qasm; see assemble --help",
+    ),
+    ("assemble -o", 2, "assemble: -o takes the name of a file"),
+    (
+        "assemble -o x -o y a.qasm",
+        2,
+        "assemble: -o is written twice",
+    ),
+    (
+        "assemble -- -x",
+        1,
+        "assemble: -x: No such file or directory",
+    ),
+];
+
 #[test]
 fn arguments() {
-    refused(
-        &folder(),
-        &[
-            (
-                "assemble --list a.qasm",
-                2,
-                "assemble: unknown option --list; see assemble --help",
-            ),
-            (
-                "assemble -x",
-                2,
-                "assemble: unknown option -x; see assemble --help",
-            ),
-            (
-                "disassemble --listing a.img",
-                2,
-                "disassemble: unknown option --listing; see disassemble --help",
-            ),
-            (
-                "assemble a.qasm b.qasm",
-                2,
-                "assemble: one file is taken, not also b.qasm; see assemble --help",
-            ),
-            ("assemble -o", 2, "assemble: -o takes the name of a file"),
-            (
-                "assemble -o x -o y a.qasm",
-                2,
-                "assemble: -o is written twice",
-            ),
-            (
-                "assemble -- -x",
-                1,
-                "assemble: -x: No such file or directory",
-            ),
-        ],
-    );
+    refused(&folder(), ARGUMENTS);
 }
+
+/// Files and streams that are no sources or no images.
+const INPUTS: &[(&str, i32, &str)] = &[
+    (
+        "assemble none.qasm",
+        1,
+        "assemble: none.qasm: No such file or directory",
+    ),
+    ("assemble .", 1, "assemble: .: Is a directory"),
+    (
+        "assemble < .",
+        1,
+        "assemble: standard input: Is a directory",
+    ),
+    ("disassemble .", 1, "disassemble: .: Is a directory"),
+    (
+        "assemble bad.qasm",
+        1,
+        "assemble: bad.qasm: line 2: is no UTF-8 text",
+    ),
+    (
+        "assemble < bad.qasm",
+        1,
+        "assemble: line 2: is no UTF-8 text",
+    ),
+    (
+        "assemble a.img",
+        1,
+        "assemble: a.img: is no source text: it has a byte 0",
+    ),
+    (
+        "assemble long.qasm",
+        1,
+        "assemble: long.qasm: longer than 4194304 bytes",
+    ),
+    (
+        "assemble < /dev/zero",
+        1,
+        "assemble: standard input: longer than 4194304 bytes",
+    ),
+    (
+        "disassemble no.img",
+        1,
+        "disassemble: no.img: refused by 2: the last four bytes are not those of an image",
+    ),
+    (
+        "disassemble < a.qasm",
+        1,
+        "disassemble: refused by 1: the file is shorter than 92 bytes or longer than 65536",
+    ),
+];
 
 #[test]
 fn input_that_cannot_be_read() {
@@ -123,58 +174,7 @@ fn input_that_cannot_be_read() {
     folder.put("bad.qasm", b"start\nfinish ; \xFF\n");
     folder.put("long.qasm", vec![b' '; (4 << 20) + 1]);
     folder.put("no.img", vec![b'x'; 100]);
-    refused(
-        &folder,
-        &[
-            (
-                "assemble none.qasm",
-                1,
-                "assemble: none.qasm: No such file or directory",
-            ),
-            ("assemble .", 1, "assemble: .: Is a directory"),
-            (
-                "assemble < .",
-                1,
-                "assemble: standard input: Is a directory",
-            ),
-            ("disassemble .", 1, "disassemble: .: Is a directory"),
-            (
-                "assemble bad.qasm",
-                1,
-                "assemble: bad.qasm: line 2: is no UTF-8 text",
-            ),
-            (
-                "assemble < bad.qasm",
-                1,
-                "assemble: line 2: is no UTF-8 text",
-            ),
-            (
-                "assemble a.img",
-                1,
-                "assemble: a.img: is no source text: it has a byte 0",
-            ),
-            (
-                "assemble long.qasm",
-                1,
-                "assemble: long.qasm: longer than 4194304 bytes",
-            ),
-            (
-                "assemble < /dev/zero",
-                1,
-                "assemble: standard input: longer than 4194304 bytes",
-            ),
-            (
-                "disassemble no.img",
-                1,
-                "disassemble: no.img: refused by 2: the last four bytes are not those of an image",
-            ),
-            (
-                "disassemble < a.qasm",
-                1,
-                "disassemble: refused by 1: the file is shorter than 92 bytes or longer than 65536",
-            ),
-        ],
-    );
+    refused(&folder, INPUTS);
 }
 
 #[test]
@@ -207,41 +207,40 @@ fn a_refused_source() {
     assert_eq!(fs::read(folder.path("old.img")).unwrap(), b"old");
 }
 
+/// Places that take no output.
+const OUTPUTS: &[(&str, i32, &str)] = &[
+    (
+        "assemble a.qasm > /dev/full",
+        1,
+        "assemble: standard output: No space left on device",
+    ),
+    (
+        "assemble --listing a.qasm > /dev/full",
+        1,
+        "assemble: standard output: No space left on device",
+    ),
+    (
+        "disassemble a.img > /dev/full",
+        1,
+        "disassemble: standard output: No space left on device",
+    ),
+    ("assemble -o . a.qasm", 1, "assemble: .: is no regular file"),
+    (
+        "assemble -o /dev/full a.qasm",
+        1,
+        "assemble: /dev/full: is no regular file",
+    ),
+    (
+        "assemble -o no/b a.qasm",
+        1,
+        "assemble: no/b: No such file or directory",
+    ),
+];
+
 #[test]
 fn output_that_cannot_be_written() {
-    let full = "standard output: No space left on device";
     let folder = folder();
-    refused(
-        &folder,
-        &[
-            (
-                "assemble a.qasm > /dev/full",
-                1,
-                &format!("assemble: {full}"),
-            ),
-            (
-                "assemble --listing a.qasm > /dev/full",
-                1,
-                &format!("assemble: {full}"),
-            ),
-            (
-                "disassemble a.img > /dev/full",
-                1,
-                &format!("disassemble: {full}"),
-            ),
-            ("assemble -o . a.qasm", 1, "assemble: .: is no regular file"),
-            (
-                "assemble -o /dev/full a.qasm",
-                1,
-                "assemble: /dev/full: is no regular file",
-            ),
-            (
-                "assemble -o no/b a.qasm",
-                1,
-                "assemble: no/b: No such file or directory",
-            ),
-        ],
-    );
+    refused(&folder, OUTPUTS);
     for command in [
         "assemble a.qasm",
         "assemble --listing a.qasm",

@@ -1,0 +1,102 @@
+//! What is warned of, word for word, and that it comes true.
+
+use crank::{Direction, Machine};
+use crank_assembler::assemble;
+
+fn warnings(source: &str) -> Vec<String> {
+    let found = assemble(source).expect(source).warnings;
+    found.iter().map(ToString::to_string).collect()
+}
+
+/// The refusal at which a forward run ends.
+fn ends_by(source: &str) -> u32 {
+    let image = assemble(source).expect(source).image;
+    let mut machine = Machine::load(&image).expect("it is an image");
+    machine.turns(Direction::Forward, 100).refusal
+}
+
+#[test]
+fn addresses() {
+    let source = "ld r1, 0\nld r1, 2\nld r1, 3\n.data\n.word 1";
+    let want = [
+        "line 1: warning: data words are 3 to 3, so address 0 is refused by 15 in a turn",
+        "line 2: warning: data words are 3 to 3, so address 2 is refused by 15 in a turn",
+    ];
+    assert_eq!(warnings(source), want);
+    assert_eq!(ends_by(source), 15);
+    let source = "start\nld r1, 1";
+    let want = "line 2: warning: there are no data words, so address 1 is refused by 15 in a turn";
+    assert_eq!(warnings(source), [want]);
+    assert_eq!(ends_by(source), 15);
+}
+
+#[test]
+fn nodes_that_are_none() {
+    let table = [
+        (
+            "start\nfiq r1",
+            "line 2: warning: there is no .node, so this fiq",
+        ),
+        (
+            "qif r1\nfiq r1\n.node 1",
+            "line 1: warning: qifv is 0, nodes are 1 to 1, so this qif",
+        ),
+        (
+            "qif r1\n.node 1\n.qifv 2",
+            "line 1: warning: qifv is 2, nodes are 1 to 1, so this qif",
+        ),
+    ];
+    for (source, front) in table {
+        assert_eq!(
+            warnings(source),
+            [format!("{front} is refused by 17 in a turn")]
+        );
+        assert_eq!(ends_by(source), 17, "{source}");
+    }
+}
+
+/// The lowest node alone is told, and a word that is no instruction does not hide it.
+#[test]
+fn unpaired_links() {
+    let table = [
+        (
+            "qif r1\n.qifv 1\n.node 1 fc0=9",
+            "line 3: warning: a link of node 1",
+        ),
+        (
+            "qif r1\n.word 7\n.qifv b\n.node 1\n.node b fc0=c\n.node c cf=1",
+            "line 5: warning: a link of node b",
+        ),
+    ];
+    for (source, front) in table {
+        assert_eq!(
+            warnings(source),
+            [format!("{front} is not paired: no link leads back")]
+        );
+        assert_eq!(ends_by(source), 17, "{source}");
+    }
+}
+
+#[test]
+fn by_line() {
+    let source = ".node 1 nx=1\nqif r1\nld r1, 0\n.node 2 nx=1";
+    let lines: Vec<usize> = assemble(source)
+        .expect(source)
+        .warnings
+        .iter()
+        .map(|warning| warning.line)
+        .collect();
+    assert_eq!(lines, [1, 2, 3]);
+}
+
+#[test]
+fn none() {
+    for source in [
+        "start\nld r1, d\n.data\nd: .word 1",
+        // Written as numbers, code words are nobody's mistake.
+        "start\n.word 0x01400001, 7, 0x18400000",
+        "qif r1\n.qifv 1\n.node 1 fc0=2\n.node 2 cf=1",
+    ] {
+        assert_eq!(warnings(source), [""; 0], "{source}");
+    }
+}
