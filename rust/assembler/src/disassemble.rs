@@ -1,10 +1,11 @@
 //! The source of an image: assembled, it gives the same bytes.
 
 use crate::branches::{branches, Branch};
-use crate::forms::{Instruction, FIELDS, REGISTERS};
+use crate::forms::{FIELDS, REGISTERS};
+use crate::instruction::Instruction;
 use crate::preface;
 use crank::{calls, Machine, Record, NODE_WORDS};
-use std::collections::HashSet;
+use std::collections::BTreeSet;
 use std::fmt::Write;
 
 /// Zeros in a row that are written by `.space`.
@@ -20,8 +21,10 @@ const ROW: usize = 8;
 pub fn disassemble(file: &[u8]) -> Result<String, u32> {
     let machine = Machine::load(file)?;
     let Record { k, m, n, .. } = machine.record;
-    let mut source = Disassembly::default();
-    source.text = format!("; K {k}, M {m}, N {n}\n");
+    let mut source = Disassembly {
+        text: format!("; K {k}, M {m}, N {n}\n"),
+        labels: BTreeSet::new(),
+    };
     for text in preface::write(calls::preface(file)) {
         source.line("", &format!(".preface {text}"));
     }
@@ -34,10 +37,9 @@ pub fn disassemble(file: &[u8]) -> Result<String, u32> {
 }
 
 /// The source as far as it is written, and the addresses that it names by labels.
-#[derive(Default)]
 struct Disassembly {
     text: String,
-    labels: HashSet<usize>,
+    labels: BTreeSet<usize>,
 }
 
 impl Disassembly {
@@ -108,9 +110,9 @@ impl Disassembly {
         let mut from = 0;
         while from < data.len() {
             let label = self.label_at("D", first + from);
-            let labelled = |place: &usize| self.labels.contains(&(first + place));
-            let end = (from + 1..data.len()).find(labelled);
-            let (taken, statement) = data_row(&data[from..end.unwrap_or(data.len())]);
+            let next = self.labels.range(first + from + 1..).next();
+            let end = next.map_or(data.len(), |address| address - first);
+            let (taken, statement) = data_row(&data[from..end]);
             self.line(&label, &statement);
             from += taken;
         }

@@ -1,15 +1,15 @@
 //! The names of registers and node fields, and the forms of the instructions: one line each, for
 //! writing words and for reading them.
 
-use crate::text::{in_range, quoted};
+use crate::text::{is_name, quoted, split_word};
 use crate::Checked;
 
 pub const REGISTERS: [&str; 16] = [
     "pc", "br", "ro", "sp", "r1", "r2", "r3", "r4", "r5", "r6", "r7", "r8", "r9", "r10", "r11",
     "r12",
 ];
-const PC: i64 = 0;
-const BR: i64 = 1;
+pub const PC: i64 = 0;
+pub const BR: i64 = 1;
 
 /// The words of a node.
 pub const FIELDS: [&str; 9] = ["fc0", "fc1", "lc0", "lc1", "cf", "cl", "nx", "pr", "w"];
@@ -64,7 +64,7 @@ const OPS_TWO: Names = &[
 /// in the order written here.
 pub struct Form {
     pub name: &'static str,
-    opcode: u32,
+    pub opcode: u32,
     pub kinds: &'static [Kind],
 }
 
@@ -109,8 +109,25 @@ impl Form {
             .find(|form| form.name.eq_ignore_ascii_case(name))
     }
 
+    pub fn with_opcode(opcode: u32) -> Option<&'static Form> {
+        FORMS.iter().find(|form| form.opcode == opcode)
+    }
+
+    /// The form of a written instruction, and its operands.
+    pub fn written(text: &str) -> Checked<(&'static Form, &str)> {
+        let end = text
+            .find(|c: char| c.is_whitespace() || c == '(' || c == ',')
+            .unwrap_or(text.len());
+        let (name, operands) = (&text[..end], text[end..].trim());
+        match Form::named(name) {
+            Some(form) => Ok((form, operands)),
+            None if name.is_empty() => Err(unknown(text, "")),
+            None => Err(unknown(name, operands)),
+        }
+    }
+
     /// The instruction that has the gate or the operation.
-    pub fn with_para(name: &str) -> Option<&'static Form> {
+    fn with_para(name: &str) -> Option<&'static Form> {
         FORMS.iter().find(|form| match form.kinds.first() {
             Some(Para(names)) => para_place(name, names).is_some(),
             _ => false,
@@ -124,96 +141,18 @@ impl Form {
     }
 }
 
-/// A form with the values of its operands; registers, gates and operations by number.
-pub struct Instruction {
-    pub form: &'static Form,
-    pub values: Vec<i64>,
-}
-
-impl Instruction {
-    /// The word, or why there is none.
-    pub fn word(&self) -> Checked<u32> {
-        let mut word = self.form.opcode << 24;
-        let mut named = Vec::new();
-        for (kind, value) in self.operands() {
-            word |= match kind {
-                Reg | RegPc => {
-                    register_allowed(kind, value, &named)?;
-                    named.push(value);
-                    (value as u32) << (24 - 4 * named.len())
-                }
-                Imm | Address => in_range(value, 0, 0xFFFF)? as u32,
-                Offset => in_range(value, -0x8000, 0x7FFF)? as u32 & 0xFFFF,
-                Para(names) => (in_range(value, 1, names.len() as i64)? as u32) << 8,
-            };
-        }
-        Ok(word)
+/// What was meant by a line that begins with no mnemonic.
+fn unknown(name: &str, rest: &str) -> String {
+    let what = format!("unknown instruction {}", quoted(name));
+    if let Some(form) = Form::with_para(name) {
+        return format!("{what}; it is written with {}", form.name);
     }
-
-    /// The instruction that a word is, if it is one.
-    pub fn of(word: u32) -> Option<Instruction> {
-        let form = FORMS.iter().find(|form| form.opcode == word >> 24)?;
-        let mut shift = 24;
-        let values = form.kinds.iter().map(|kind| match kind {
-            Reg | RegPc => {
-                shift -= 4;
-                i64::from(word >> shift & 0xF)
-            }
-            Imm | Address => i64::from(word & 0xFFFF),
-            Offset => i64::from(word as u16 as i16),
-            Para(_) => i64::from(word >> 8 & 0xF),
-        });
-        let values = values.collect();
-        let read = Instruction { form, values };
-        // Written anew it differs where a bit is set that the form does not use.
-        (read.word() == Ok(word)).then_some(read)
+    let next = split_word(rest).0;
+    let before_a_line = rest.is_empty() || next.starts_with('.') || Form::named(next).is_some();
+    if is_name(name) && before_a_line {
+        return format!("{what}; a label ends with a colon");
     }
-
-    /// As it is written in a source; `number` stands for the immediate, address or offset.
-    pub fn text(&self, number: Option<&str>) -> String {
-        let mut text = self.form.name.to_string();
-        for (place, (kind, value)) in self.operands().enumerate() {
-            text += if place == 0 { " " } else { ", " };
-            text += &match (kind, number) {
-                (Reg | RegPc, _) => REGISTERS[value as usize].to_string(),
-                (Para(names), _) => names[value as usize - 1][0].to_string(),
-                (Imm | Address | Offset, Some(number)) => number.to_string(),
-                (Imm | Address | Offset, None) => value.to_string(),
-            };
-        }
-        text
-    }
-
-    /// The offset of a branch.
-    pub fn offset(&self) -> Option<i64> {
-        let mut operands = self.operands();
-        Some(operands.find(|(kind, _)| matches!(kind, Offset))?.1)
-    }
-
-    /// The address that the word itself holds.
-    pub fn address(&self) -> Option<i64> {
-        let mut operands = self.operands();
-        Some(operands.find(|(kind, _)| matches!(kind, Address))?.1)
-    }
-
-    fn operands(&self) -> impl Iterator<Item = (Kind, i64)> + '_ {
-        let values = self.values.iter().copied();
-        self.form.kinds.iter().copied().zip(values)
-    }
-}
-
-fn register_allowed(kind: Kind, register: i64, named: &[i64]) -> Checked<()> {
-    if register == BR {
-        return Err("br is never named in an instruction".into());
-    }
-    if register == PC && matches!(kind, Reg) {
-        return Err("pc cannot stand in this place".into());
-    }
-    if named.contains(&register) {
-        let name = REGISTERS[register as usize];
-        return Err(format!("{name} is named twice; registers must differ"));
-    }
-    Ok(())
+    what
 }
 
 /// The number of a register.

@@ -1,9 +1,9 @@
 //! The assembler of QINS and its inverse: source text to an image, an image to source text.
 //!
 //! The syntax is in `docs/ASSEMBLER.md`. A source is read once into words, labels, nodes and
-//! settings ([`source`]); with the number of code words known, every operand is resolved
-//! ([`resolve`]) and the image is written by the proved library ([`image`]). The instructions stand
-//! in one table ([`forms`]), from which words are written and read.
+//! settings (`source`); with the number of code words known, every operand is resolved (`resolve`)
+//! and the image is written by the proved library (`image`). The instructions stand in one table
+//! (`forms`), from which words are written and read.
 //!
 //! ```
 //! let assembled = crank_assembler::assemble("start\nxori r1, 5\nfinish\n").unwrap();
@@ -18,6 +18,7 @@ mod branches;
 mod disassemble;
 mod forms;
 mod image;
+mod instruction;
 mod listing;
 mod preface;
 mod resolve;
@@ -95,5 +96,5 @@ pub fn assemble(source: &str) -> Result<Assembled, Error> {
 /// The instruction as it is written in a source, offsets and addresses as numbers; none where the
 /// word is no instruction.
 pub fn instruction_text(word: u32) -> Option<String> {
-    Some(forms::Instruction::of(word)?.text(None))
+    Some(instruction::Instruction::of(word)?.text(None))
 }

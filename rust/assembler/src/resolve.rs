@@ -1,10 +1,10 @@
 //! Resolving: the words that the operands of a source stand for.
 
-use crate::forms::{para_number, register_number, Form, Instruction, Kind, FIELDS};
+use crate::forms::{para_number, register_number, Form, Kind, FIELDS};
+use crate::instruction::Instruction;
 use crate::source::{Place, Setting, Source, Word};
 use crate::text::{
-    as_count, as_word, is_name, number, operands, quoted, split_word, starts_name,
-    without_parentheses, FROM,
+    as_count, as_word, number, operands, quoted, split_word, starts_name, without_parentheses, FROM,
 };
 use crate::Checked;
 use crank::{Record, NODE_WORDS};
@@ -16,7 +16,7 @@ impl Source<'_> {
     /// The memory word at the address `here`.
     pub fn word(&self, word: &Word<'_>, here: usize) -> Checked<u32> {
         match word {
-            Word::Instruction(text) => self.instruction(text, here as i64)?.word(),
+            Word::Instruction(form, text) => self.instruction(form, text, here as i64)?.word(),
             Word::Value(text) => as_word(self.value(text)?),
             Word::Zero => Ok(0),
         }
@@ -39,21 +39,9 @@ impl Source<'_> {
         // A comma may stand between fields, and so it may not stand alone.
         let fields = operands(text)?;
         for part in fields.iter().flat_map(|part| part.split_whitespace()) {
-            let (name, value) = part
-                .split_once('=')
-                .filter(|(name, value)| !name.is_empty() && !value.is_empty())
-                .ok_or_else(|| {
-                    format!(
-                        "{} is not of the form field=value, without blanks",
-                        quoted(part)
-                    )
-                })?;
-            let place = FIELDS
-                .iter()
-                .position(|field| field.eq_ignore_ascii_case(name))
-                .ok_or_else(|| format!("a node has no field {}", quoted(name)))?;
+            let (place, value) = field(part)?;
             if std::mem::replace(&mut seen[place], true) {
-                return Err(format!("the field {name} is written twice"));
+                return Err(format!("the field {} is written twice", FIELDS[place]));
             }
             node[place] = match place {
                 W => as_count(number(value)?)?,
@@ -72,13 +60,8 @@ impl Source<'_> {
         }
     }
 
-    fn instruction(&self, text: &str, here: i64) -> Checked<Instruction> {
-        let end = text
-            .find(|c: char| c.is_whitespace() || c == '(' || c == ',')
-            .unwrap_or(text.len());
-        let (name, rest) = (&text[..end], text[end..].trim());
-        let form = Form::named(name).ok_or_else(|| unknown(text, name, rest))?;
-        let written = operands(without_parentheses(rest)?)?;
+    fn instruction(&self, form: &'static Form, text: &str, here: i64) -> Checked<Instruction> {
+        let written = operands(without_parentheses(text)?)?;
         if written.len() != form.kinds.len() {
             return Err(wrong_count(form, &written));
         }
@@ -88,10 +71,7 @@ impl Source<'_> {
             .zip(written)
             .map(|(kind, operand)| self.operand(*kind, operand, here))
             .collect();
-        Ok(Instruction {
-            form,
-            values: values?,
-        })
+        values.map(|values| Instruction { form, values })
     }
 
     fn operand(&self, kind: Kind, text: &str, here: i64) -> Checked<i64> {
@@ -146,28 +126,29 @@ impl Source<'_> {
     }
 }
 
+/// The place of a field in its node, and the value written for it.
+fn field(part: &str) -> Checked<(usize, &str)> {
+    let (name, value) = match part.split_once('=') {
+        Some((name, value)) if !name.is_empty() && !value.is_empty() => (name, value),
+        _ => {
+            let part = quoted(part);
+            return Err(format!(
+                "{part} is not of the form field=value, without blanks"
+            ));
+        }
+    };
+    FIELDS
+        .iter()
+        .position(|field| field.eq_ignore_ascii_case(name))
+        .map(|place| (place, value))
+        .ok_or_else(|| format!("a node has no field {}", quoted(name)))
+}
+
 fn no_label(label: &str) -> String {
     if register_number(label).is_some() {
         return format!("{label} is a register; here a number or a label stands");
     }
     format!("there is no label {}", quoted(label))
-}
-
-/// What was meant by a line that begins with no mnemonic.
-fn unknown(text: &str, name: &str, rest: &str) -> String {
-    let shown = quoted(if name.is_empty() { text } else { name });
-    if let Some(form) = Form::with_para(name) {
-        return format!(
-            "unknown instruction {shown}; it is written with {}",
-            form.name
-        );
-    }
-    let next = split_word(rest).0;
-    let before_a_line = rest.is_empty() || next.starts_with('.') || Form::named(next).is_some();
-    if is_name(name) && before_a_line {
-        return format!("unknown instruction {shown}; a label ends with a colon");
-    }
-    format!("unknown instruction {shown}")
 }
 
 fn wrong_count(form: &Form, written: &[&str]) -> String {

@@ -1,6 +1,6 @@
 //! Reading a source: its words, labels, nodes and settings, with operands left as they are written.
 
-use crate::forms::{register_number, REGISTERS};
+use crate::forms::{register_number, Form, REGISTERS};
 use crate::text::{
     check_name, leading_label, lines, number, operands, quoted, split_item, split_word,
     without_comment,
@@ -19,7 +19,7 @@ pub enum Section {
 
 /// A memory word as written.
 pub enum Word<'a> {
-    Instruction(&'a str),
+    Instruction(&'static Form, &'a str),
     Value(&'a str),
     Zero,
 }
@@ -94,10 +94,11 @@ impl<'a> Source<'a> {
         if let Some(directive) = rest.strip_prefix('.') {
             return self.directive(directive);
         }
+        let (form, operands) = Form::written(rest)?;
         if self.section == Section::Data {
             return Err("an instruction in the data section; write .code before it".into());
         }
-        self.push(Word::Instruction(rest))
+        self.push(Word::Instruction(form, operands))
     }
 
     fn label(&mut self, name: &'a str) -> Checked<()> {

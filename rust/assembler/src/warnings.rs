@@ -1,6 +1,7 @@
 //! What is taken, but refused in every turn that comes to it.
 
-use crate::forms::{Form, Instruction};
+use crate::forms::Form;
+use crate::instruction::Instruction;
 use crate::source::{Source, Word};
 use crate::Warning;
 use crank::Machine;
@@ -21,7 +22,7 @@ fn instructions<'a>(
 ) -> impl Iterator<Item = (usize, Instruction)> + 'a {
     let words = source.code.iter().zip(&machine.mem);
     words.filter_map(|((line, written), word)| match written {
-        Word::Instruction(_) => Some((*line, Instruction::of(*word)?)),
+        Word::Instruction(..) => Some((*line, Instruction::of(*word)?)),
         _ => None,
     })
 }

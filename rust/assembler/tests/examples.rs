@@ -92,7 +92,7 @@ L8:     bra  from L3
 #[test]
 fn all_parts_of_a_source() {
     let source = "\
-; K 4, M 16, N 2
+; K 4, M 15, N 2
         .preface \"coin 1\\n\"
         .preface \"\\xFF\\\"a\\\\\"
         start
@@ -102,7 +102,7 @@ fn all_parts_of_a_source() {
 
         .data
 D4:     .word 1, 0x00010000, 0, 4
-        .space 5
+        .space 4
         .word 1, 0, 0
 
         .reg pc 1

@@ -67,14 +67,20 @@ fn all_fields_and_random_words() {
     let mut rng = Rng::new(42);
     let mut found = Vec::new();
     // Every opcode up to the last, with all registers and paras; then noise.
-    for upper in 0..0x25_0000 {
+    let fields = 0x25_0000;
+    for upper in 0..fields {
         compare(upper << 8, &mut found);
     }
-    for _ in 0..rounds(500_000) {
+    let noise = rounds(500_000);
+    for _ in 0..noise {
         compare(rng.word(), &mut found);
         compare(rng.word() & 0x3FFF_FFFF, &mut found);
     }
     assemble_again(&found);
-    println!("fields and noise: {} instructions", found.len());
-    assert!(!found.is_empty());
+    let looked = (fields + 2 * noise) as usize;
+    println!(
+        "fields and noise: {looked} words, {} instructions",
+        found.len()
+    );
+    assert!(!found.is_empty() && found.len() < looked);
 }

@@ -242,6 +242,10 @@ fn errors_over_several_lines() {
             ".data\nstart",
             "line 2: an instruction in the data section; write .code before it",
         ),
+        (
+            "start\n.data\na .word 6",
+            "line 3: unknown instruction \"a\"; a label ends with a colon",
+        ),
         ("start\n.reg r1 1\n.reg R1 2", "line 3: r1 is set twice"),
         ("start\n.qifw 1\n.qifw 1", "line 3: qifw is set twice"),
         (
