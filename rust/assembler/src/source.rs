@@ -2,8 +2,8 @@
 
 use crate::forms::{register_number, Form, REGISTERS};
 use crate::text::{
-    check_name, leading_label, lines, number, operands, quoted, split_item, split_word,
-    without_comment,
+    is_name, leading_label, lines, number, operands, quoted, split_item, split_word,
+    without_comment, FROM,
 };
 use crate::{preface, Checked, Error};
 use crank::{MAX_NODES, MAX_WORDS};
@@ -230,4 +230,18 @@ impl<'a> Source<'a> {
         self.settings.push(Setting { line, place, value });
         Ok(())
     }
+}
+
+fn check_name(name: &str) -> Checked<()> {
+    if !is_name(name) {
+        let rule = "a letter or _, then letters, digits, _ and .";
+        return Err(format!("{} is not a name: {rule}", quoted(name)));
+    }
+    if register_number(name).is_some() {
+        return Err(format!("{name} is a register and cannot be a name"));
+    }
+    if name.eq_ignore_ascii_case(FROM) {
+        return Err(format!("{name} marks a landing and cannot be a name"));
+    }
+    Ok(())
 }

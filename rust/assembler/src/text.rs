@@ -1,6 +1,5 @@
 //! Lines, names, operands and numbers of a source text.
 
-use crate::forms::register_number;
 use crate::Checked;
 
 /// What stands before the label of a jump at its landing.
@@ -61,20 +60,6 @@ pub fn is_name(text: &str) -> bool {
     let in_name = |c: char| c.is_ascii_alphanumeric() || c == '_' || c == '.';
     let rest = text.strip_prefix(['@', '&']).unwrap_or(text);
     rest.starts_with(|c: char| c.is_ascii_alphabetic() || c == '_') && rest.chars().all(in_name)
-}
-
-pub fn check_name(name: &str) -> Checked<()> {
-    if !is_name(name) {
-        let rule = "a letter or _, then letters, digits, _ and .";
-        return Err(format!("{} is not a name: {rule}", quoted(name)));
-    }
-    if register_number(name).is_some() {
-        return Err(format!("{name} is a register and cannot be a name"));
-    }
-    if name.eq_ignore_ascii_case(FROM) {
-        return Err(format!("{name} marks a landing and cannot be a name"));
-    }
-    Ok(())
 }
 
 /// The text up to the first blank, and the rest without blanks around it.
