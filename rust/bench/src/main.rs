@@ -3,13 +3,19 @@
 //!
 //! Every turn, load, save and check is a proved call; nothing of the machine is written here.
 
+mod commands;
+mod desk;
 mod exercise;
+mod interrupt;
 mod mark;
+mod picture;
 mod session;
+mod show;
+mod terminal;
+mod typed;
 
 use std::env;
 use std::ffi::OsString;
-use std::io::{self, Write};
 use std::process::ExitCode;
 
 /// The status of bad input: arguments, files, commands.
@@ -22,8 +28,7 @@ fn main() -> ExitCode {
         _ => session::run(&arguments),
     };
     ExitCode::from(done.unwrap_or_else(|line| {
-        // Nothing is left to be done where even this can't be written.
-        let _ = writeln!(io::stderr(), "bench: {line}");
+        terminal::complain(&line);
         BAD_INPUT
     }))
 }

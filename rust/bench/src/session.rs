@@ -1,12 +1,149 @@
-//! Not written yet.
+//! `bench FILE`: its arguments, and the loop over the commands.
 
-use std::ffi::OsString;
+use crate::commands::{self, Stop};
+use crate::desk::Desk;
+use crate::exercise::Exercise;
+use crate::interrupt;
+use crate::show;
+use crate::terminal::{self, Line};
+use crank_assembler::files;
+use std::ffi::{OsStr, OsString};
+use std::io::{self, BufWriter, IsTerminal, Write};
+use std::path::Path;
+
+const USAGE: &str = "\
+usage: bench FILE               obeys commands, one a line, from a terminal or a pipe
+       bench FILE -c COMMANDS   obeys these, with ; between them
+       bench mark ...           marks what is handed in
+FILE is an image, or a source whose name ends in .qasm.
+
+commands:";
+
+const PROMPT: &str = "> ";
+
+/// What the arguments ask for.
+enum Asked<'a> {
+    Help,
+    Session {
+        file: &'a OsStr,
+        commands: Option<&'a str>,
+    },
+}
 
 /// Gives the status.
 ///
 /// # Errors
 ///
 /// One line on what is wrong with the input.
-pub fn run(_arguments: &[OsString]) -> Result<u8, String> {
-    Err("not written yet".to_string())
+pub fn run(arguments: &[OsString]) -> Result<u8, String> {
+    let asked = asked(arguments)?;
+    let mut out = BufWriter::new(io::stdout().lock());
+    let done = match asked {
+        Asked::Help => help(&mut out).map_err(Stop::Output),
+        Asked::Session { file, commands } => session(Path::new(file), commands, &mut out),
+    };
+    // Before what main says of a fault.
+    let flushed = out.flush().map_err(Stop::Output);
+    match done.and(flushed) {
+        Ok(()) | Err(Stop::Quit) => Ok(0),
+        Err(Stop::Bad(line)) => Err(line),
+        Err(Stop::Output(e)) => Err(files::output_fault(&e)),
+    }
+}
+
+fn asked(arguments: &[OsString]) -> Result<Asked<'_>, String> {
+    let (mut file, mut commands) = (None, None);
+    let mut rest = arguments.iter();
+    while let Some(argument) = rest.next() {
+        if argument == "--help" || argument == "-h" {
+            return Ok(Asked::Help);
+        } else if argument == "-c" {
+            let given = rest.next().ok_or("-c needs the commands behind it")?;
+            let given = given.to_str().ok_or("the commands are no text in UTF-8")?;
+            if commands.replace(given).is_some() {
+                return Err("-c is given twice".to_string());
+            }
+        } else if argument.as_encoded_bytes().starts_with(b"-") {
+            return Err(format!("there is no option {}", argument.display()));
+        } else if file.replace(argument.as_os_str()).is_some() {
+            return Err(format!("{} is one file too many", argument.display()));
+        }
+    }
+    let file = file.ok_or("a file is needed; bench --help says more")?;
+    Ok(Asked::Session { file, commands })
+}
+
+fn help(out: &mut dyn Write) -> io::Result<()> {
+    writeln!(out, "{USAGE}")?;
+    commands::list(out)
+}
+
+fn session(file: &Path, commands: Option<&str>, out: &mut dyn Write) -> Result<(), Stop> {
+    let exercise = Exercise::open(file)?;
+    for warning in &exercise.warnings {
+        terminal::complain(warning);
+    }
+    let mut desk = Desk::new(exercise);
+    if let Some(commands) = commands {
+        let mut each = commands.split([';', '\n']);
+        return each.try_for_each(|command| obey(&mut desk, command, out));
+    }
+    if !io::stdin().is_terminal() {
+        return piped(&mut desk, out);
+    }
+    interrupt::install();
+    greet(file, &desk, out)?;
+    typed(&mut desk, out)
+}
+
+fn greet(file: &Path, desk: &Desk, out: &mut dyn Write) -> io::Result<()> {
+    let record = &desk.machine.record;
+    let pc = show::word(record.regs[0]);
+    let place = show::place(&desk.machine);
+    write!(out, "{}: ", file.display())?;
+    write!(out, "K {}, M {}, N {}; ", record.k, record.m, record.n)?;
+    writeln!(out, "pc {pc}{place}")?;
+    writeln!(out, "help lists the commands")
+}
+
+/// Obeys a command; its answer is out before the next one.
+fn obey(desk: &mut Desk, command: &str, out: &mut dyn Write) -> Result<(), Stop> {
+    let done = commands::run(desk, command, out);
+    out.flush()?;
+    done
+}
+
+/// Commands from a pipe or a file: a bad one ends the program.
+fn piped(desk: &mut Desk, out: &mut dyn Write) -> Result<(), Stop> {
+    loop {
+        match next_line()? {
+            Line::Text(text) => obey(desk, &text, out)?,
+            Line::Bad(line) => return Err(Stop::Bad(line)),
+            Line::Interrupted => {}
+            Line::End => return Ok(()),
+        }
+    }
+}
+
+/// Commands as they are typed: after a bad one it goes on.
+fn typed(desk: &mut Desk, out: &mut dyn Write) -> Result<(), Stop> {
+    loop {
+        write!(out, "{PROMPT}")?;
+        out.flush()?;
+        let done = match next_line()? {
+            Line::Text(text) => obey(desk, &text, out),
+            Line::Bad(line) => Err(Stop::Bad(line)),
+            Line::Interrupted => Ok(writeln!(out)?),
+            Line::End => return Ok(writeln!(out)?),
+        };
+        match done {
+            Err(Stop::Bad(line)) => terminal::complain(&line),
+            done => done?,
+        }
+    }
+}
+
+fn next_line() -> Result<Line, Stop> {
+    terminal::read_line(&mut io::stdin().lock())
+        .map_err(|e| Stop::Bad(format!("standard input: {}", files::reason(&e))))
 }

@@ -1,0 +1,234 @@
+//! The commands: a row and a function each.
+
+use crate::desk::{Desk, Stretch};
+use crate::picture::picture;
+use crate::show;
+use crate::typed;
+use crank::{meaning, Call, Direction, Machine};
+use crank_assembler::files;
+use std::io::{self, Write};
+use std::path::Path;
+
+/// Why the commands don't simply go on.
+pub enum Stop {
+    /// A bad command, in one line.
+    Bad(String),
+    /// The output can't be written.
+    Output(io::Error),
+    Quit,
+}
+
+impl From<String> for Stop {
+    fn from(line: String) -> Stop {
+        Stop::Bad(line)
+    }
+}
+
+impl From<io::Error> for Stop {
+    fn from(e: io::Error) -> Stop {
+        Stop::Output(e)
+    }
+}
+
+type Done = Result<(), Stop>;
+
+/// A row of the table that `help` prints.
+struct Command {
+    names: &'static [&'static str],
+    /// The arguments; those in brackets may be left out.
+    takes: &'static str,
+    does: &'static str,
+    run: fn(&mut Desk, &[&str], &mut dyn Write) -> Done,
+}
+
+#[rustfmt::skip]
+const COMMANDS: &[Command] = &[
+    Command { names: &["f", "forward"], takes: "[N]", run: forward,
+        does: "N turns forward; 1 if left out" },
+    Command { names: &["b", "back"], takes: "[N]", run: back,
+        does: "N turns back; 1 if left out" },
+    Command { names: &["r", "run"], takes: "", run: run_forward,
+        does: "turns forward until one is refused" },
+    Command { names: &["rw", "rewind"], takes: "", run: rewind,
+        does: "turns back until one is refused" },
+    Command { names: &["t", "to"], takes: "ADDRESS", run: to,
+        does: "turns forward, at least one, until pc is ADDRESS" },
+    Command { names: &["w", "where"], takes: "", run: where_it_stands,
+        does: "pc, br, node and wait, and the words around pc" },
+    Command { names: &["regs"], takes: "", run: regs,
+        does: "the registers, node and wait" },
+    Command { names: &["m", "mem"], takes: "FROM [TO]", run: mem,
+        does: "the memory words from address FROM to TO" },
+    Command { names: &["table"], takes: "", run: table,
+        does: "the qif table: links that are not 0, and waits" },
+    Command { names: &["p", "picture"], takes: "FILE.svg", run: draw,
+        does: "draws the qif table" },
+    Command { names: &["check"], takes: "", run: check,
+        does: "looks at all code words and links" },
+    Command { names: &["c", "counts"], takes: "", run: counts,
+        does: "the turns made since the file was opened or reset" },
+    Command { names: &["s", "save"], takes: "FILE", run: save,
+        does: "writes the state as an image, and says the counts" },
+    Command { names: &["reset"], takes: "", run: reset,
+        does: "the state as opened, counts 0" },
+    Command { names: &["h", "help", "?"], takes: "", run: help,
+        does: "this table" },
+    Command { names: &["q", "quit"], takes: "", run: quit,
+        does: "ends; so does the end of the input" },
+];
+
+/// Runs what was typed; nothing if it is blank.
+///
+/// # Errors
+///
+/// A bad command, a fault of the output, or quit.
+pub fn run(desk: &mut Desk, text: &str, out: &mut dyn Write) -> Done {
+    let words: Vec<&str> = text.split_whitespace().collect();
+    let Some((name, arguments)) = words.split_first() else {
+        return Ok(());
+    };
+    let Some(command) = COMMANDS.iter().find(|row| row.names.contains(name)) else {
+        let name = typed::quoted(name);
+        return Err(format!("there is no command {name}; help lists them").into());
+    };
+    let takes: Vec<&str> = command.takes.split_whitespace().collect();
+    let needed = takes.iter().filter(|taken| !taken.starts_with('[')).count();
+    if arguments.len() < needed {
+        return Err(format!("{name} needs {}", command.takes).into());
+    }
+    if let Some(extra) = arguments.get(takes.len()) {
+        let extra = typed::quoted(extra);
+        return Err(format!("{name} does not take {extra}").into());
+    }
+    (command.run)(desk, arguments, out)
+}
+
+/// The table of the commands.
+///
+/// # Errors
+///
+/// A fault of the output.
+pub fn list(out: &mut dyn Write) -> io::Result<()> {
+    for row in COMMANDS {
+        let form = format!("{} {}", row.names.join(", "), row.takes);
+        writeln!(out, "  {form:21}  {}", row.does)?;
+    }
+    writeln!(
+        out,
+        "N and addresses are decimal or hexadecimal with 0x; an address may be a label."
+    )
+}
+
+/// Turns, then says what they came to.
+fn turn(desk: &mut Desk, out: &mut dyn Write, turns: impl FnOnce(&mut Desk) -> Stretch) -> Done {
+    let before: Machine = desk.machine.clone();
+    let stretch = turns(desk);
+    Ok(show::stretch(out, &stretch, &before, desk)?)
+}
+
+fn turns(desk: &mut Desk, direction: Direction, arguments: &[&str], out: &mut dyn Write) -> Done {
+    let count = match arguments {
+        [count, ..] => typed::number(count, u64::MAX)?,
+        [] => 1,
+    };
+    turn(desk, out, |desk| desk.turns(direction, count))
+}
+
+fn forward(desk: &mut Desk, arguments: &[&str], out: &mut dyn Write) -> Done {
+    turns(desk, Direction::Forward, arguments, out)
+}
+
+fn back(desk: &mut Desk, arguments: &[&str], out: &mut dyn Write) -> Done {
+    turns(desk, Direction::Back, arguments, out)
+}
+
+fn run_forward(desk: &mut Desk, _: &[&str], out: &mut dyn Write) -> Done {
+    turn(desk, out, |desk| desk.turns(Direction::Forward, u64::MAX))
+}
+
+fn rewind(desk: &mut Desk, _: &[&str], out: &mut dyn Write) -> Done {
+    turn(desk, out, |desk| desk.turns(Direction::Back, u64::MAX))
+}
+
+fn to(desk: &mut Desk, arguments: &[&str], out: &mut dyn Write) -> Done {
+    let address = typed::address(arguments[0], &desk.exercise)?;
+    turn(desk, out, |desk| desk.turns_to(address))
+}
+
+fn where_it_stands(desk: &mut Desk, _: &[&str], out: &mut dyn Write) -> Done {
+    Ok(show::place_in_code(out, desk)?)
+}
+
+fn regs(desk: &mut Desk, _: &[&str], out: &mut dyn Write) -> Done {
+    Ok(show::registers(out, desk)?)
+}
+
+fn mem(desk: &mut Desk, arguments: &[&str], out: &mut dyn Write) -> Done {
+    let from = typed::address(arguments[0], &desk.exercise)?;
+    let to = match arguments.get(1) {
+        Some(to) => typed::address(to, &desk.exercise)?,
+        None => from,
+    };
+    let most = desk.machine.record.m;
+    if let Some(beyond) = [from, to].into_iter().find(|address| *address >= most) {
+        return Err(format!("there is no address {beyond}; M is {most}").into());
+    }
+    if from > to {
+        return Err(format!("the address {from} is above {to}").into());
+    }
+    Ok(show::words(out, desk, from as usize..=to as usize)?)
+}
+
+fn table(desk: &mut Desk, _: &[&str], out: &mut dyn Write) -> Done {
+    Ok(show::table(out, desk)?)
+}
+
+fn draw(desk: &mut Desk, arguments: &[&str], out: &mut dyn Write) -> Done {
+    let svg = picture(&desk.machine, &desk.exercise);
+    files::write(Path::new(arguments[0]), svg.as_bytes())?;
+    let nodes = desk.machine.record.n;
+    Ok(writeln!(out, "drawn in {}: {nodes} nodes", arguments[0])?)
+}
+
+fn check(desk: &mut Desk, _: &[&str], out: &mut dyn Write) -> Done {
+    let checked = desk.machine.check();
+    let (refusal, why) = (checked.refusal, meaning(checked.refusal, Call::Check));
+    let place = match refusal {
+        7 => format!(" at address {}", checked.place),
+        8 => format!(" at node {}", show::node(checked.place, &desk.exercise)),
+        _ => String::new(),
+    };
+    Ok(writeln!(out, "check gives {refusal}{place}: {why}")?)
+}
+
+fn counts(desk: &mut Desk, _: &[&str], out: &mut dyn Write) -> Done {
+    Ok(writeln!(out, "{}", desk.counts)?)
+}
+
+fn save(desk: &mut Desk, arguments: &[&str], out: &mut dyn Write) -> Done {
+    let image = desk.machine.save().map_err(|refusal| {
+        let why = meaning(refusal, Call::Save);
+        format!("refused by {refusal}: {why}")
+    })?;
+    let bytes = [desk.exercise.preface.as_slice(), &image].concat();
+    files::write(Path::new(arguments[0]), &bytes)?;
+    let length = bytes.len();
+    Ok(writeln!(
+        out,
+        "saved in {}: {length} bytes; {}",
+        arguments[0], desk.counts
+    )?)
+}
+
+fn reset(desk: &mut Desk, _: &[&str], out: &mut dyn Write) -> Done {
+    desk.reset();
+    Ok(writeln!(out, "as opened; {}", desk.counts)?)
+}
+
+fn help(_: &mut Desk, _: &[&str], out: &mut dyn Write) -> Done {
+    Ok(list(out)?)
+}
+
+fn quit(_: &mut Desk, _: &[&str], _: &mut dyn Write) -> Done {
+    Err(Stop::Quit)
+}

@@ -1,0 +1,214 @@
+//! The state in words and columns.
+
+use crate::desk::{Desk, End, Stretch};
+use crate::exercise::Exercise;
+use crank::{meaning, Call, Direction, Machine, NODE_WORDS};
+use crank_assembler::instruction_text;
+use std::collections::BTreeMap;
+use std::io::{self, Write};
+use std::ops::RangeInclusive;
+
+const REGISTERS: [&str; 16] = [
+    "pc", "br", "ro", "sp", "r1", "r2", "r3", "r4", "r5", "r6", "r7", "r8", "r9", "r10", "r11",
+    "r12",
+];
+pub const FIELDS: [&str; NODE_WORDS] = ["fc0", "fc1", "lc0", "lc1", "cf", "cl", "nx", "pr", "w"];
+/// The words shown before pc and behind it.
+const AROUND: usize = 4;
+/// The registers on a line.
+const COLUMNS: usize = 4;
+
+/// A word in decimal, with what it is in hexadecimal and signed where that may help.
+pub fn word(value: u32) -> String {
+    match value {
+        0..0x1_0000 => value.to_string(),
+        0x1_0000..0x8000_0000 => format!("{value} ({value:#x})"),
+        _ => format!("{value} ({value:#x}, {})", value as i32),
+    }
+}
+
+/// A node by its number and its name.
+pub fn node(number: u32, exercise: &Exercise) -> String {
+    match exercise.node_name(number) {
+        Some(name) => format!("{number} {name}"),
+        None => number.to_string(),
+    }
+}
+
+/// Whether it stands at an end of the run, as the proved calls say.
+pub fn place(machine: &Machine) -> &'static str {
+    match (machine.at_start(), machine.at_finish()) {
+        (true, _) => ", at start",
+        (_, true) => ", at finish",
+        _ => "",
+    }
+}
+
+/// Columns, each as wide as its widest cell; none where all its cells are empty.
+fn columns(out: &mut dyn Write, rows: &[Vec<String>]) -> io::Result<()> {
+    let count = rows.iter().map(Vec::len).max().unwrap_or(0);
+    let mut widths = vec![0; count];
+    for row in rows {
+        for (width, cell) in widths.iter_mut().zip(row) {
+            *width = (*width).max(cell.chars().count());
+        }
+    }
+    for row in rows {
+        let cells = row.iter().zip(&widths).filter(|(_, width)| **width > 0);
+        let line: String = cells
+            .map(|(cell, width)| format!("{cell:width$}  "))
+            .collect();
+        writeln!(out, "{}", line.trim_end())?;
+    }
+    Ok(())
+}
+
+/// The registers, the node and the wait.
+pub fn registers(out: &mut dyn Write, desk: &Desk) -> io::Result<()> {
+    let record = &desk.machine.record;
+    let cells: Vec<String> = REGISTERS
+        .iter()
+        .zip(record.regs)
+        .map(|(name, value)| format!("{name:3} {}", word(value)))
+        .collect();
+    let rows: Vec<Vec<String>> = cells.chunks(COLUMNS).map(<[String]>::to_vec).collect();
+    columns(out, &rows)?;
+    let node = node(record.qifv, &desk.exercise);
+    writeln!(out, "node {node}, wait {}", word(record.qifw))
+}
+
+/// pc, br, node and wait, and the words around pc.
+pub fn place_in_code(out: &mut dyn Write, desk: &Desk) -> io::Result<()> {
+    let record = &desk.machine.record;
+    let [pc, br] = [record.regs[0], record.regs[1]].map(word);
+    let node = node(record.qifv, &desk.exercise);
+    let (wait, place) = (word(record.qifw), place(&desk.machine));
+    writeln!(out, "pc {pc}, br {br}, node {node}, wait {wait}{place}")?;
+    let (here, last) = (record.regs[0] as usize, record.m as usize - 1);
+    if here > last {
+        return writeln!(out, "no memory word is at pc; M is {}", record.m);
+    }
+    let first = here.saturating_sub(AROUND);
+    words(out, desk, first..=last.min(here + AROUND))
+}
+
+/// Memory words, code disassembled; a star at pc.
+pub fn words(out: &mut dyn Write, desk: &Desk, addresses: RangeInclusive<usize>) -> io::Result<()> {
+    let record = &desk.machine.record;
+    let mut labels: BTreeMap<usize, String> = BTreeMap::new();
+    for (label, address) in &desk.exercise.labels {
+        *labels.entry(*address as usize).or_default() += &format!("{label}: ");
+    }
+    let width = addresses.end().to_string().len();
+    let mut rows = Vec::new();
+    for address in addresses {
+        let mark = if record.regs[0] as usize == address {
+            '*'
+        } else {
+            ' '
+        };
+        let label = labels.get(&address).map_or("", |label| label.trim_end());
+        let mut row = vec![format!("{mark} {address:width$}"), label.to_string()];
+        row.extend(match address < record.k as usize {
+            true => code_word(desk.machine.mem[address]),
+            false => vec![word(desk.machine.mem[address])],
+        });
+        rows.push(row);
+    }
+    columns(out, &rows)
+}
+
+/// An instruction and its word.
+fn code_word(value: u32) -> Vec<String> {
+    let text = instruction_text(value).unwrap_or_else(|| "no instruction".to_string());
+    vec![text, format!("{value:#010x}")]
+}
+
+/// The qif table: the links that are not 0 and the waits; a star at the present node.
+pub fn table(out: &mut dyn Write, desk: &Desk) -> io::Result<()> {
+    let exercise = &desk.exercise;
+    let nodes = desk.machine.table.chunks(NODE_WORDS).zip(1..);
+    let width = desk.machine.record.n.to_string().len();
+    let mut rows = Vec::new();
+    for (fields, number) in nodes {
+        let present = desk.machine.record.qifv == number;
+        let mark = if present { '*' } else { ' ' };
+        let name = exercise.node_name(number).unwrap_or_default();
+        let mut row = vec![format!("{mark} {number:width$}"), name.to_string()];
+        row.push(links(fields, exercise));
+        rows.push(row);
+    }
+    if rows.is_empty() {
+        writeln!(out, "the qif table has no nodes")?;
+    }
+    columns(out, &rows)
+}
+
+/// The fields of a node that are not 0, as a source has them.
+fn links(fields: &[u32], exercise: &Exercise) -> String {
+    let mut parts = Vec::new();
+    for (field, value) in FIELDS.iter().zip(fields).filter(|(_, value)| **value != 0) {
+        match exercise.node_name(*value).filter(|_| *field != "w") {
+            Some(name) => parts.push(format!("{field}={name}")),
+            None => parts.push(format!("{field}={value}")),
+        }
+    }
+    parts.join(" ")
+}
+
+/// What a stretch of turns came to, and what it changed.
+pub fn stretch(
+    out: &mut dyn Write,
+    stretch: &Stretch,
+    before: &Machine,
+    desk: &Desk,
+) -> io::Result<()> {
+    let (call, way) = match stretch.direction {
+        Direction::Forward => (Call::Forward, "forward"),
+        Direction::Back => (Call::Back, "back"),
+    };
+    let count = stretch.turns;
+    let turns = if count == 1 { "turn" } else { "turns" };
+    match stretch.end {
+        End::Complete => writeln!(out, "{count} {turns} {way}")?,
+        End::Stopped => writeln!(out, "stopped after {count} {turns} {way}")?,
+        End::Refused(refusal) => {
+            let why = meaning(refusal, call);
+            if count == 0 {
+                return writeln!(out, "refused by {refusal}: {why}; nothing changed");
+            }
+            writeln!(
+                out,
+                "{count} {turns} {way}, then refused by {refusal}: {why}"
+            )?;
+        }
+    }
+    changes(out, before, desk)
+}
+
+/// The registers, the node, the wait and the words that differ.
+fn changes(out: &mut dyn Write, before: &Machine, desk: &Desk) -> io::Result<()> {
+    let (old, new) = (&before.record, &desk.machine.record);
+    let mut rows = Vec::new();
+    let mut compare = |name: String, old: String, new: String| {
+        if old != new {
+            rows.push(vec![format!("  {name}"), format!("{old} -> {new}")]);
+        }
+    };
+    for (register, name) in REGISTERS.iter().enumerate() {
+        let (old, new) = (old.regs[register], new.regs[register]);
+        compare(name.to_string(), word(old), word(new));
+    }
+    let named = |number| node(number, &desk.exercise);
+    compare("node".to_string(), named(old.qifv), named(new.qifv));
+    compare("wait".to_string(), word(old.qifw), word(new.qifw));
+    for (address, (old, new)) in before.mem.iter().zip(&desk.machine.mem).enumerate() {
+        if old != new {
+            compare(format!("mem[{address}]"), word(*old), word(*new));
+        }
+    }
+    if rows.is_empty() {
+        writeln!(out, "  the state is as before")?;
+    }
+    columns(out, &rows)
+}

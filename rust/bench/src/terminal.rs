@@ -1,0 +1,95 @@
+//! Lines in, and what goes to standard error: faults and the progress of a long run.
+
+use crate::interrupt;
+use std::io::{self, BufRead, IsTerminal, Write};
+use std::time::{Duration, Instant};
+
+/// The most bytes of a line, so that an endless one ends.
+const MAX_LINE: usize = 1 << 20;
+/// A run is long from here on.
+const PATIENCE: Duration = Duration::from_millis(400);
+/// Between two looks at the progress.
+const PAUSE: Duration = Duration::from_millis(100);
+
+/// Says what is wrong, in one line.
+pub fn complain(line: &str) {
+    // Nothing is left to be done where even this can't be written.
+    let _ = writeln!(io::stderr(), "bench: {line}");
+}
+
+/// What came from the input.
+pub enum Line {
+    Text(String),
+    /// It is no command, for the reason given.
+    Bad(String),
+    /// Ctrl-C came first; what was typed is dropped.
+    Interrupted,
+    End,
+}
+
+/// The next line, without its end.
+///
+/// # Errors
+///
+/// A fault of the input.
+pub fn read_line(input: &mut impl BufRead) -> io::Result<Line> {
+    let mut line = Vec::new();
+    loop {
+        // read_until would read on after Ctrl-C.
+        let found = match input.fill_buf() {
+            Err(e) if e.kind() == io::ErrorKind::Interrupted => return Ok(Line::Interrupted),
+            found => found?,
+        };
+        if found.is_empty() && line.is_empty() {
+            return Ok(Line::End);
+        }
+        let end = found.iter().position(|byte| *byte == b'\n');
+        line.extend(&found[..end.unwrap_or(found.len())]);
+        let last = found.is_empty() || end.is_some();
+        let used = end.map_or(found.len(), |end| end + 1);
+        input.consume(used);
+        if line.len() > MAX_LINE {
+            return Ok(Line::Bad(format!("a line of over {MAX_LINE} bytes")));
+        }
+        if last {
+            return Ok(match String::from_utf8(line) {
+                Ok(text) => Line::Text(text),
+                Err(_) => Line::Bad("the line is no text in UTF-8".to_string()),
+            });
+        }
+    }
+}
+
+/// The turns of a run as they are made, on a terminal only; erased when dropped.
+pub struct Progress {
+    next: Instant,
+    shown: bool,
+}
+
+impl Progress {
+    pub fn new() -> Progress {
+        Progress {
+            next: Instant::now() + PATIENCE,
+            shown: false,
+        }
+    }
+
+    pub fn show(&mut self, turns: u64) {
+        let now = Instant::now();
+        if now >= self.next && io::stderr().is_terminal() {
+            self.next = now + PAUSE;
+            self.shown = true;
+            // A run goes on where this can't be written.
+            let _ = write!(io::stderr(), "\r{turns} turns ");
+        }
+    }
+}
+
+impl Drop for Progress {
+    fn drop(&mut self) {
+        // The terminal itself writes ^C.
+        if self.shown || interrupt::raised() && io::stderr().is_terminal() {
+            let _ = write!(io::stderr(), "\r\x1b[K");
+        }
+    }
+}
