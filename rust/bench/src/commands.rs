@@ -186,8 +186,8 @@ fn table(desk: &mut Desk, _: &[&str], out: &mut dyn Write) -> Done {
 fn draw(desk: &mut Desk, arguments: &[&str], out: &mut dyn Write) -> Done {
     let svg = picture(&desk.machine, &desk.exercise);
     files::write(Path::new(arguments[0]), svg.as_bytes())?;
-    let nodes = desk.machine.record.n;
-    Ok(writeln!(out, "drawn in {}: {nodes} nodes", arguments[0])?)
+    let nodes = show::counted(desk.machine.record.n.into(), "node");
+    Ok(writeln!(out, "drawn in {}: {nodes}", arguments[0])?)
 }
 
 fn check(desk: &mut Desk, _: &[&str], out: &mut dyn Write) -> Done {

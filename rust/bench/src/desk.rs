@@ -2,14 +2,13 @@
 
 use crate::exercise::Exercise;
 use crate::interrupt;
+use crate::show::PC;
 use crate::terminal::Progress;
 use crank::{Direction, Machine, Made};
 use std::fmt;
 
 /// The turns between two looks at Ctrl-C.
 const CHUNK: u64 = 100_000;
-/// The number of pc.
-const PC: usize = 0;
 
 /// The accepted turns, as they are handed in.
 #[derive(Clone, Copy, Default)]

@@ -17,12 +17,15 @@ const MARGIN: i64 = 24;
 const LINE: i64 = 17;
 const LETTER: i64 = 8;
 const GAP: i64 = 26;
-const RISE: i64 = 58;
+const RISE: i64 = 64;
 const HEAD: i64 = 64;
+/// How far a link that goes round a box stands out.
+const ASIDE: i64 = 32;
 /// Between the ends of the links at a node.
-const PORT: i64 = 18;
+const PORT: i64 = 22;
 /// Of coin 0 and coin 1.
 const COLOURS: [&str; 2] = ["#1f5fa8", "#b3470f"];
+const NEUTRAL: &str = "#555";
 
 const STYLE: &str = "\
 <style>
@@ -32,7 +35,7 @@ text { font-family: sans-serif; font-size: 13px; fill: #222; text-anchor: middle
 .number { font-weight: bold }
 .node rect { fill: #f4f4f1; stroke: #555 }
 .present rect { fill: #ffe08a; stroke: #7a5b00; stroke-width: 2 }
-.link { fill: none; stroke: #555; stroke-width: 1.4 }
+.link { fill: none; stroke-width: 1.4 }
 .last { stroke-dasharray: 5 4 }
 .coin circle { fill: #fff }
 .coin text { font-size: 11px }
@@ -102,7 +105,7 @@ impl Drawing<'_> {
         let right = self.boxes.iter().map(|b| b.x + self.width / 2).max();
         let bottom = self.boxes.iter().map(|b| b.y + b.height).max();
         let text = LETTER * caption.chars().count().max(KEY.len()) as i64;
-        let width = right.unwrap_or(0).max(text) + MARGIN;
+        let width = right.unwrap_or(0).max(text) + 2 * MARGIN;
         let height = bottom.unwrap_or(HEAD) + MARGIN;
         self.svg += &format!(
             "<svg xmlns=\"http://www.w3.org/2000/svg\" width=\"{width}\" height=\"{height}\" \
@@ -152,7 +155,11 @@ impl Drawing<'_> {
         let [x1, x2] = [a.x + ports[0], b.x + ports[1]];
         let [y1, y2] = [a.y + a.height, b.y];
         // A link that does not lead down goes round its own box.
-        let aside = if y2 > y1 { 0 } else { self.width };
+        let aside = if y2 > y1 {
+            0
+        } else {
+            ASIDE + self.width * 2 / 3
+        };
         let bend = if y2 > y1 { (y2 - y1) / 2 } else { RISE };
         let [cx1, cx2] = [x1 + aside, x2 + aside];
         let [cy1, cy2] = [y1 + bend, y2 - bend];
@@ -162,10 +169,11 @@ impl Drawing<'_> {
         );
         let colour = COLOURS[coin];
         self.svg += &format!(
-            "<path class=\"{class}\" d=\"M{x1} {y1}C{cx1} {cy1} {cx2} {cy2} {x2} {}\"/>\n",
+            "<path class=\"{class}\" stroke=\"{colour}\" \
+             d=\"M{x1} {y1}C{cx1} {cy1} {cx2} {cy2} {x2} {}\"/>\n",
             y2 - 6
         );
-        self.arrow(x2, y2, "l-4 -8h8z");
+        self.arrow(colour, (x2, y2), "l-4 -8h8z");
         self.svg += &format!(
             "<g class=\"coin\"><circle cx=\"{0}\" cy=\"{1}\" r=\"8\" stroke=\"{colour}\"/>\
              <text x=\"{0}\" y=\"{2}\" style=\"fill: {colour}\">{coin}</text></g>\n",
@@ -184,18 +192,18 @@ impl Drawing<'_> {
         let over = if x2 > x1 { 0 } else { RISE };
         let bend = if x2 > x1 { (x2 - x1) / 2 } else { RISE };
         self.svg += &format!(
-            "<path class=\"link\" d=\"M{x1} {y1}C{} {} {} {} {} {y2}\"/>\n",
+            "<path class=\"link\" stroke=\"{NEUTRAL}\" d=\"M{x1} {y1}C{} {} {} {} {} {y2}\"/>\n",
             x1 + bend,
             y1 - over,
             x2 - bend,
             y2 - over,
             x2 - 6
         );
-        self.arrow(x2, y2, "l-8 -4v8z");
+        self.arrow(NEUTRAL, (x2, y2), "l-8 -4v8z");
     }
 
-    fn arrow(&mut self, x: i64, y: i64, shape: &str) {
-        self.svg += &format!("<path fill=\"#555\" d=\"M{x} {y}{shape}\"/>\n");
+    fn arrow(&mut self, colour: &str, (x, y): (i64, i64), shape: &str) {
+        self.svg += &format!("<path fill=\"{colour}\" d=\"M{x} {y}{shape}\"/>\n");
     }
 
     fn node(&mut self, node: usize) {

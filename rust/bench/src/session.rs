@@ -98,7 +98,7 @@ fn session(file: &Path, commands: Option<&str>, out: &mut dyn Write) -> Result<(
 
 fn greet(file: &Path, desk: &Desk, out: &mut dyn Write) -> io::Result<()> {
     let record = &desk.machine.record;
-    let pc = show::word(record.regs[0]);
+    let pc = show::word(record.regs[show::PC]);
     let place = show::place(&desk.machine);
     write!(out, "{}: ", file.display())?;
     write!(out, "K {}, M {}, N {}; ", record.k, record.m, record.n)?;

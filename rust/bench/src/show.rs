@@ -12,6 +12,9 @@ const REGISTERS: [&str; 16] = [
     "pc", "br", "ro", "sp", "r1", "r2", "r3", "r4", "r5", "r6", "r7", "r8", "r9", "r10", "r11",
     "r12",
 ];
+pub const PC: usize = 0;
+const BR: usize = 1;
+/// The fields of a node.
 pub const FIELDS: [&str; NODE_WORDS] = ["fc0", "fc1", "lc0", "lc1", "cf", "cl", "nx", "pr", "w"];
 /// The words shown before pc and behind it.
 const AROUND: usize = 4;
@@ -25,6 +28,12 @@ pub fn word(value: u32) -> String {
         0x1_0000..0x8000_0000 => format!("{value} ({value:#x})"),
         _ => format!("{value} ({value:#x}, {})", value as i32),
     }
+}
+
+/// So many of a thing.
+pub fn counted(count: u64, thing: &str) -> String {
+    let ending = if count == 1 { "" } else { "s" };
+    format!("{count} {thing}{ending}")
 }
 
 /// A node by its number and its name.
@@ -80,11 +89,11 @@ pub fn registers(out: &mut dyn Write, desk: &Desk) -> io::Result<()> {
 /// pc, br, node and wait, and the words around pc.
 pub fn place_in_code(out: &mut dyn Write, desk: &Desk) -> io::Result<()> {
     let record = &desk.machine.record;
-    let [pc, br] = [record.regs[0], record.regs[1]].map(word);
+    let [pc, br] = [record.regs[PC], record.regs[BR]].map(word);
     let node = node(record.qifv, &desk.exercise);
     let (wait, place) = (word(record.qifw), place(&desk.machine));
     writeln!(out, "pc {pc}, br {br}, node {node}, wait {wait}{place}")?;
-    let (here, last) = (record.regs[0] as usize, record.m as usize - 1);
+    let (here, last) = (record.regs[PC] as usize, record.m as usize - 1);
     if here > last {
         return writeln!(out, "no memory word is at pc; M is {}", record.m);
     }
@@ -102,7 +111,7 @@ pub fn words(out: &mut dyn Write, desk: &Desk, addresses: RangeInclusive<usize>)
     let width = addresses.end().to_string().len();
     let mut rows = Vec::new();
     for address in addresses {
-        let mark = if record.regs[0] as usize == address {
+        let mark = if record.regs[PC] as usize == address {
             '*'
         } else {
             ' '
@@ -167,20 +176,16 @@ pub fn stretch(
         Direction::Forward => (Call::Forward, "forward"),
         Direction::Back => (Call::Back, "back"),
     };
-    let count = stretch.turns;
-    let turns = if count == 1 { "turn" } else { "turns" };
+    let turns = counted(stretch.turns, "turn");
     match stretch.end {
-        End::Complete => writeln!(out, "{count} {turns} {way}")?,
-        End::Stopped => writeln!(out, "stopped after {count} {turns} {way}")?,
+        End::Complete => writeln!(out, "{turns} {way}")?,
+        End::Stopped => writeln!(out, "stopped after {turns} {way}")?,
         End::Refused(refusal) => {
             let why = meaning(refusal, call);
-            if count == 0 {
+            if stretch.turns == 0 {
                 return writeln!(out, "refused by {refusal}: {why}; nothing changed");
             }
-            writeln!(
-                out,
-                "{count} {turns} {way}, then refused by {refusal}: {why}"
-            )?;
+            writeln!(out, "{turns} {way}, then refused by {refusal}: {why}")?;
         }
     }
     changes(out, before, desk)

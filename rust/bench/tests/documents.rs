@@ -1,0 +1,196 @@
+//! Runs what the documents show: every block fenced by ```console, as in docs/BENCH.md and in
+//! `transcripts/`, must give exactly the output that stands there.
+//!
+//! A line `$ COMMAND` is run by a shell in a scratch folder with a copy of the examples; lines
+//! `> ...` right behind it continue it, as a shell shows them. Where a block begins with
+//! `$ bench FILE` and nothing else, its lines `> ...` are commands typed at a terminal.
+//!
+//! With `TRANSCRIPTS=write` the documents get the output that came, to be read before it is kept.
+
+#[path = "support/pty.rs"]
+mod pty;
+#[path = "support/scratch.rs"]
+mod scratch;
+
+use pty::{Terminal, CTRL_D};
+use scratch::{scratch, top};
+use std::env;
+use std::ffi::OsString;
+use std::fs;
+use std::io::{self, Read};
+use std::path::Path;
+use std::process::{Command, Stdio};
+
+const BENCH: &str = env!("CARGO_BIN_EXE_bench");
+const CONSOLE: &str = "```console";
+const FENCE: &str = "```";
+const TRANSCRIPTS: &str = "rust/bench/tests/transcripts";
+/// Where blocks may stand; the first must have some, like every transcript.
+const DOCUMENTS: [&str; 6] = [
+    "docs/BENCH.md",
+    "docs/ASSEMBLER.md",
+    "docs/MANUAL.md",
+    "docs/CALLS.md",
+    "README.md",
+    "examples/README.md",
+];
+
+/// The built programs come first.
+fn path() -> OsString {
+    let mut folders = vec![Path::new(BENCH).parent().expect("its folder").to_path_buf()];
+    folders.extend(env::split_paths(&env::var_os("PATH").unwrap_or_default()));
+    env::join_paths(folders).expect("a path")
+}
+
+fn with_newline(text: &str) -> String {
+    match text.is_empty() || text.ends_with('\n') {
+        true => text.to_string(),
+        false => format!("{text}\n"),
+    }
+}
+
+/// What a shell's command writes, on both outputs.
+fn shell(command: &str, folder: &Path) -> String {
+    let (mut reader, writer) = io::pipe().expect("a pipe");
+    let mut child = Command::new("timeout")
+        .args(["60", "sh", "-c", command])
+        .current_dir(folder)
+        .env("PATH", path())
+        .stdin(Stdio::null())
+        .stdout(writer.try_clone().expect("the pipe"))
+        .stderr(writer)
+        .spawn()
+        .expect("a shell");
+    let mut bytes = Vec::new();
+    reader.read_to_end(&mut bytes).expect("its output");
+    child.wait().expect("its end");
+    with_newline(&String::from_utf8_lossy(&bytes))
+}
+
+/// What a terminal shows while these commands are typed at `bench FILE`.
+fn typed(file: &str, commands: &[&str], folder: &Path) -> String {
+    let mut bench = Command::new(BENCH);
+    bench.arg(file).current_dir(folder);
+    let mut terminal = Terminal::spawn(bench);
+    let mut going = terminal.prompt().1;
+    for command in commands {
+        assert!(going, "it ended before {command:?}:\n{}", terminal.screen);
+        terminal.press(&format!("{command}\n"));
+        going = terminal.prompt().1;
+    }
+    if !going {
+        return with_newline(&terminal.end().0);
+    }
+    terminal.press(CTRL_D);
+    let screen = terminal.end().0;
+    let shown = screen.strip_suffix("> \n").expect("a last prompt");
+    shown.to_string()
+}
+
+/// The block with the output that came, and the commands in it.
+fn run_block(block: &[&str], folder: &Path) -> (String, usize) {
+    let first: Vec<&str> = block
+        .first()
+        .map_or(vec![], |line| line.split(' ').collect());
+    let inputs: Vec<&str> = block
+        .iter()
+        .filter_map(|line| line.strip_prefix("> "))
+        .collect();
+    if let (["$", "bench", file], false) = (first.as_slice(), inputs.is_empty()) {
+        let shown = typed(file, &inputs, folder);
+        return (format!("$ bench {file}\n{shown}"), 1 + inputs.len());
+    }
+    let (mut text, mut count) = (String::new(), 0);
+    let mut lines = block.iter().peekable();
+    while let Some(line) = lines.next() {
+        // Output that was expected; what came stands behind the command already.
+        let Some(first) = line.strip_prefix("$ ") else {
+            continue;
+        };
+        let mut command = first.to_string();
+        text += &format!("{line}\n");
+        while let Some(line) = lines.next_if(|line| line.starts_with("> ")) {
+            command += &format!("\n{}", &line[2..]);
+            text += &format!("{line}\n");
+        }
+        text += &shell(&command, folder);
+        count += 1;
+    }
+    (text, count)
+}
+
+/// The document with the output that came, and its blocks and commands.
+fn run_document(text: &str, folder: &Path) -> (String, usize, usize) {
+    let (mut new, mut blocks, mut commands) = (String::new(), 0, 0);
+    let mut lines = text.lines();
+    while let Some(line) = lines.next() {
+        new += &format!("{line}\n");
+        if line != CONSOLE {
+            continue;
+        }
+        let block: Vec<&str> = lines.by_ref().take_while(|line| *line != FENCE).collect();
+        let (shown, count) = run_block(&block, folder);
+        assert!(count > 0, "a block without a command: {block:?}");
+        new += &format!("{shown}{FENCE}\n");
+        blocks += 1;
+        commands += count;
+    }
+    (new, blocks, commands)
+}
+
+/// Runs a document; gives its blocks and commands, and what differs.
+fn check(name: &str, number: usize) -> (usize, usize, String) {
+    let document = top().join(name);
+    let text = fs::read_to_string(&document).unwrap_or_else(|e| panic!("{name}: {e}"));
+    let folder = scratch(&format!("document{number}"));
+    let (new, blocks, commands) = run_document(&text, &folder);
+    println!("{name}: {blocks} blocks, {commands} commands");
+    if new == text {
+        return (blocks, commands, String::new());
+    }
+    if env::var_os("TRANSCRIPTS").is_some_and(|value| value == "write") {
+        fs::write(document, &new).expect("the document");
+    }
+    let differs = |(place, (old, new)): (usize, (&str, &str))| {
+        (old != new).then(|| format!("{name}:{}\n  has  {old}\n  came {new}\n", place + 1))
+    };
+    let mut lines = text.lines().zip(new.lines()).enumerate();
+    let first = lines.find_map(differs);
+    (
+        blocks,
+        commands,
+        first.unwrap_or_else(|| format!("{name}: ends otherwise\n")),
+    )
+}
+
+fn transcripts() -> Vec<String> {
+    let mut found: Vec<String> = fs::read_dir(top().join(TRANSCRIPTS))
+        .expect("the transcripts")
+        .map(|entry| entry.expect("a transcript").file_name())
+        .map(|name| format!("{TRANSCRIPTS}/{}", name.to_string_lossy()))
+        .filter(|name| name.ends_with(".md"))
+        .collect();
+    found.sort();
+    assert!(!found.is_empty(), "no transcripts");
+    found
+}
+
+#[test]
+fn documents_show_what_comes() {
+    let documents = DOCUMENTS.map(str::to_string).into_iter();
+    let all: Vec<String> = documents.chain(transcripts()).collect();
+    let (mut blocks, mut commands, mut faults) = (0, 0, String::new());
+    for (number, name) in all.iter().enumerate() {
+        let (some, more, fault) = check(name, number);
+        let must = number == 0 || number >= DOCUMENTS.len();
+        assert!(some > 0 || !must, "{name}: no block");
+        blocks += some;
+        commands += more;
+        faults += &fault;
+    }
+    println!(
+        "{} documents, {blocks} blocks, {commands} commands",
+        all.len()
+    );
+    assert!(faults.is_empty(), "\n{faults}");
+}

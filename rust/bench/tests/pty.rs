@@ -1,0 +1,149 @@
+//! bench at a terminal: prompt and greeting, progress, Ctrl-C in a run and at the prompt, Ctrl-D.
+
+#[path = "support/pty.rs"]
+mod pty;
+#[path = "support/scratch.rs"]
+mod scratch;
+
+use pty::{Terminal, CTRL_D};
+use scratch::scratch;
+use std::fs;
+use std::path::Path;
+use std::process::Command;
+
+const CTRL_C: &str = "\x03";
+
+/// Round and round, with data that changes; r1 counts the rounds, so that l0 is reached from above
+/// with r1 0 and from l1 with r1 not 0.
+const ENDLESS: &str = "\
+        start
+l0:     bnz  r1, from l1
+        xori r2, 0x1234
+        add  r3, r2
+        ld   r3, a
+        addi r1, 1
+l1:     bra  l0
+        finish
+        .data
+a:      .word 7
+";
+
+fn bench(folder: &Path, file: &str) -> Terminal {
+    let mut bench = Command::new(env!("CARGO_BIN_EXE_bench"));
+    bench.arg(file).current_dir(folder);
+    Terminal::spawn(bench)
+}
+
+fn ask(terminal: &mut Terminal, command: &str) -> String {
+    terminal.press(&format!("{command}\n"));
+    let (answer, going) = terminal.prompt();
+    assert!(going, "it ended:\n{}", terminal.screen);
+    let answer = answer.strip_prefix(&format!("{command}\n"));
+    let answer = answer.unwrap_or_else(|| panic!("no echo of {command}:\n{}", terminal.screen));
+    answer.strip_suffix("> ").expect("a prompt").to_string()
+}
+
+/// The turns in `stopped after N turns forward`.
+fn stopped(answer: &str, way: &str) -> u64 {
+    let (_, said) = answer.split_once("stopped after ").expect(answer);
+    let (count, rest) = said.split_once(" turns ").expect(answer);
+    assert!(rest.starts_with(way), "{answer}");
+    count.parse().expect("a number")
+}
+
+/// Runs until progress has shown, then Ctrl-C; gives the turns.
+fn stop(terminal: &mut Terminal, command: &str, way: &str) -> u64 {
+    terminal.press(&format!("{command}\n"));
+    let (progress, _) = terminal.wait(|new| new.ends_with(" turns "));
+    let shown = progress.rsplit('\n').next().expect("a line");
+    let shown: u64 = shown
+        .trim()
+        .split(' ')
+        .next()
+        .unwrap()
+        .parse()
+        .expect(&progress);
+    terminal.press(CTRL_C);
+    let (answer, _) = terminal.prompt();
+    assert!(
+        answer.contains("\x1b[Kstopped after"),
+        "not erased: {answer:?}"
+    );
+    let turns = stopped(&answer, way);
+    assert!(turns >= shown && shown > 0, "{turns} after {shown}");
+    turns
+}
+
+#[test]
+fn ctrl_c_stops_a_run_with_exact_counts() {
+    let folder = scratch("stops");
+    fs::write(folder.join("endless.qasm"), ENDLESS).expect("a source");
+    let mut terminal = bench(&folder, "endless.qasm");
+    let (greeting, _) = terminal.prompt();
+    assert!(
+        greeting.starts_with("endless.qasm: K 8, M 9, N 0; pc 0, at start\n"),
+        "{greeting}"
+    );
+    let state = |terminal: &mut Terminal| {
+        let shown = [ask(terminal, "regs"), ask(terminal, "m 0 8")];
+        shown.concat()
+    };
+    let before = state(&mut terminal);
+    let forward = stop(&mut terminal, "run", "forward");
+    let counts = format!("forward {forward}, back 0, net {forward}\n");
+    assert_eq!(ask(&mut terminal, "counts"), counts);
+    assert_ne!(state(&mut terminal), before);
+    let answer = ask(&mut terminal, &format!("b {forward}"));
+    assert!(
+        answer.contains(&format!("{forward} turns back\n")),
+        "{answer}"
+    );
+    assert_eq!(
+        ask(&mut terminal, "c"),
+        format!("forward {forward}, back {forward}, net 0\n")
+    );
+    assert_eq!(state(&mut terminal), before);
+    assert_eq!(
+        ask(&mut terminal, "b"),
+        "refused by 12: pc is at start; nothing changed\n"
+    );
+    // An address that is not reached: single turns, stopped as well.
+    let to = stop(&mut terminal, "to 7", "forward");
+    let rewound = ask(&mut terminal, "rewind");
+    assert!(
+        rewound.contains(&format!("{to} turns back, then refused by 12")),
+        "{rewound}"
+    );
+    assert_eq!(state(&mut terminal), before);
+    println!("stopped after {forward} turns and after {to}, and turned back");
+    terminal.press("q\n");
+    assert!(terminal.end().1.success());
+}
+
+#[test]
+fn ctrl_c_at_the_prompt_gives_a_new_one() {
+    let folder = scratch("prompt");
+    let mut terminal = bench(&folder, "examples/first.img");
+    terminal.prompt();
+    terminal.press("forward 1");
+    terminal.wait(|new| new.ends_with("forward 1"));
+    terminal.press(CTRL_C);
+    let (answer, going) = terminal.prompt();
+    assert_eq!((answer.as_str(), going), ("^C\n> ", true));
+    // What was typed before is gone, and the next run is not stopped.
+    assert_eq!(ask(&mut terminal, "c"), "forward 0, back 0, net 0\n");
+    let run = ask(&mut terminal, "r");
+    assert!(
+        run.starts_with("2 turns forward, then refused by 12"),
+        "{run}"
+    );
+    // A bad command does not end it.
+    let bad = ask(&mut terminal, "jump");
+    assert_eq!(
+        bad,
+        "bench: there is no command \"jump\"; help lists them\n"
+    );
+    terminal.press(CTRL_D);
+    let (screen, status) = terminal.end();
+    assert!(screen.ends_with("> \n") && status.success(), "{screen}");
+}
