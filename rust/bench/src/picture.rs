@@ -44,8 +44,8 @@ text { font-family: sans-serif; font-size: 13px; fill: #222; text-anchor: middle
 const KEY: &str =
     "solid: first child for the coin (fc), dashed: last child (lc), to the right: next (nx)";
 
-/// A box: its middle and its height.
-struct Box {
+/// The frame of a node: the middle of its top, its height, and what is written in it.
+struct Frame {
     x: i64,
     y: i64,
     height: i64,
@@ -55,7 +55,7 @@ struct Box {
 struct Drawing<'a> {
     machine: &'a Machine,
     exercise: &'a Exercise,
-    boxes: Vec<Box>,
+    frames: Vec<Frame>,
     width: i64,
     svg: String,
 }
@@ -64,11 +64,11 @@ struct Drawing<'a> {
 pub fn picture(machine: &Machine, exercise: &Exercise) -> String {
     let mut drawing = Drawing::new(machine, exercise);
     drawing.head();
-    for node in 0..drawing.boxes.len() {
+    for node in 0..drawing.frames.len() {
         drawing.links(node);
     }
     // Over the lines, so that none crosses a text.
-    for node in 0..drawing.boxes.len() {
+    for node in 0..drawing.frames.len() {
         drawing.node(node);
     }
     drawing.svg + "</svg>\n"
@@ -86,15 +86,15 @@ impl Drawing<'_> {
         let width = width.max(4 * PORT + 8);
         let most = texts.iter().map(Vec::len).max().unwrap_or(0) as i64;
         let pitch = (width + GAP, LINE * most + RISE);
-        let boxes = places
+        let frames = places
             .iter()
             .zip(texts)
-            .map(|(place, lines)| Box::new(*place, lines, pitch))
+            .map(|(place, lines)| Frame::new(*place, lines, pitch))
             .collect();
         Drawing {
             machine,
             exercise,
-            boxes,
+            frames,
             width,
             svg: String::new(),
         }
@@ -102,9 +102,9 @@ impl Drawing<'_> {
 
     fn head(&mut self) {
         let caption = caption(self.machine, self.exercise);
-        let right = self.boxes.iter().map(|b| b.x + self.width / 2).max();
-        let bottom = self.boxes.iter().map(|b| b.y + b.height).max();
-        let text = LETTER * caption.chars().count().max(KEY.len()) as i64;
+        let right = self.frames.iter().map(|b| b.x + self.width / 2).max();
+        let bottom = self.frames.iter().map(|b| b.y + b.height).max();
+        let text = (LETTER - 1) * caption.chars().count().max(KEY.len()) as i64;
         let width = right.unwrap_or(0).max(text) + 2 * MARGIN;
         let height = bottom.unwrap_or(HEAD) + MARGIN;
         self.svg += &format!(
@@ -114,7 +114,7 @@ impl Drawing<'_> {
              <text class=\"head\" x=\"{MARGIN}\" y=\"26\">{}</text>\n",
             escaped(&caption)
         );
-        if !self.boxes.is_empty() {
+        if !self.frames.is_empty() {
             self.svg += &format!("<text class=\"key\" x=\"{MARGIN}\" y=\"44\">{KEY}</text>\n");
         }
     }
@@ -146,12 +146,12 @@ impl Drawing<'_> {
     /// The box of a node that exists.
     fn drawn(&self, number: u32) -> Option<usize> {
         let place = (number as usize).checked_sub(1)?;
-        (place < self.boxes.len()).then_some(place)
+        (place < self.frames.len()).then_some(place)
     }
 
     /// A link for a coin, from the bottom of a box to the top of another.
     fn child(&mut self, from: usize, to: usize, ports: [i64; 2], coin: usize, class: &str) {
-        let (a, b) = (&self.boxes[from], &self.boxes[to]);
+        let (a, b) = (&self.frames[from], &self.frames[to]);
         let [x1, x2] = [a.x + ports[0], b.x + ports[1]];
         let [y1, y2] = [a.y + a.height, b.y];
         // A link that does not lead down goes round its own box.
@@ -185,7 +185,7 @@ impl Drawing<'_> {
 
     /// The link nx, from the right of a box to the left of another.
     fn next(&mut self, from: usize, to: usize) {
-        let (a, b) = (&self.boxes[from], &self.boxes[to]);
+        let (a, b) = (&self.frames[from], &self.frames[to]);
         let [x1, x2] = [a.x + self.width / 2, b.x - self.width / 2];
         let [y1, y2] = [a.y + LINE, b.y + LINE];
         // A link that does not lead to the right goes over its own box.
@@ -208,7 +208,7 @@ impl Drawing<'_> {
 
     fn node(&mut self, node: usize) {
         let number = node as u32 + 1;
-        let drawn = &self.boxes[node];
+        let drawn = &self.frames[node];
         let class = match self.machine.record.qifv == number {
             true => "node present",
             false => "node",
@@ -231,9 +231,9 @@ impl Drawing<'_> {
     }
 }
 
-impl Box {
-    fn new(place: Place, lines: Vec<String>, pitch: (i64, i64)) -> Box {
-        Box {
+impl Frame {
+    fn new(place: Place, lines: Vec<String>, pitch: (i64, i64)) -> Frame {
+        Frame {
             x: MARGIN + place.half_column as i64 * pitch.0 / 2,
             y: HEAD + place.row as i64 * pitch.1,
             height: LINE * lines.len() as i64 + 14,

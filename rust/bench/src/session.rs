@@ -6,6 +6,7 @@ use crate::exercise::Exercise;
 use crate::interrupt;
 use crate::show;
 use crate::terminal::{self, Line};
+use crate::typed;
 use crank_assembler::files;
 use std::ffi::{OsStr, OsString};
 use std::io::{self, BufWriter, IsTerminal, Write};
@@ -64,13 +65,17 @@ fn asked(arguments: &[OsString]) -> Result<Asked<'_>, String> {
                 return Err("-c is given twice".to_string());
             }
         } else if argument.as_encoded_bytes().starts_with(b"-") {
-            return Err(format!("there is no option {}", argument.display()));
+            return Err(format!("there is no option {}", shown(argument)));
         } else if file.replace(argument.as_os_str()).is_some() {
-            return Err(format!("{} is one file too many", argument.display()));
+            return Err(format!("{} is one file too many", shown(argument)));
         }
     }
     let file = file.ok_or("a file is needed; bench --help says more")?;
     Ok(Asked::Session { file, commands })
+}
+
+fn shown(argument: &OsStr) -> String {
+    typed::quoted(&argument.to_string_lossy())
 }
 
 fn help(out: &mut dyn Write) -> io::Result<()> {
@@ -89,11 +94,11 @@ fn session(file: &Path, commands: Option<&str>, out: &mut dyn Write) -> Result<(
         return each.try_for_each(|command| obey(&mut desk, command, out));
     }
     if !io::stdin().is_terminal() {
-        return piped(&mut desk, out);
+        return from_pipe(&mut desk, out);
     }
     interrupt::install();
     greet(file, &desk, out)?;
-    typed(&mut desk, out)
+    at_terminal(&mut desk, out)
 }
 
 fn greet(file: &Path, desk: &Desk, out: &mut dyn Write) -> io::Result<()> {
@@ -114,7 +119,7 @@ fn obey(desk: &mut Desk, command: &str, out: &mut dyn Write) -> Result<(), Stop>
 }
 
 /// Commands from a pipe or a file: a bad one ends the program.
-fn piped(desk: &mut Desk, out: &mut dyn Write) -> Result<(), Stop> {
+fn from_pipe(desk: &mut Desk, out: &mut dyn Write) -> Result<(), Stop> {
     loop {
         match next_line()? {
             Line::Text(text) => obey(desk, &text, out)?,
@@ -126,7 +131,7 @@ fn piped(desk: &mut Desk, out: &mut dyn Write) -> Result<(), Stop> {
 }
 
 /// Commands as they are typed: after a bad one it goes on.
-fn typed(desk: &mut Desk, out: &mut dyn Write) -> Result<(), Stop> {
+fn at_terminal(desk: &mut Desk, out: &mut dyn Write) -> Result<(), Stop> {
     loop {
         write!(out, "{PROMPT}")?;
         out.flush()?;

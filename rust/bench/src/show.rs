@@ -53,20 +53,24 @@ pub fn place(machine: &Machine) -> &'static str {
     }
 }
 
-/// Columns, each as wide as its widest cell; none where all its cells are empty.
+/// Lines in columns, each as wide as its widest cell that has another behind it. A column without
+/// any text is left out.
 fn columns(out: &mut dyn Write, rows: &[Vec<String>]) -> io::Result<()> {
     let count = rows.iter().map(Vec::len).max().unwrap_or(0);
-    let mut widths = vec![0; count];
+    let (mut widths, mut used) = (vec![0; count], vec![false; count]);
     for row in rows {
-        for (width, cell) in widths.iter_mut().zip(row) {
-            *width = (*width).max(cell.chars().count());
+        for (place, cell) in row.iter().enumerate() {
+            used[place] |= !cell.is_empty();
+            if place + 1 < row.len() {
+                widths[place] = widths[place].max(cell.chars().count());
+            }
         }
     }
     for row in rows {
-        let cells = row.iter().zip(&widths).filter(|(_, width)| **width > 0);
-        let line: String = cells
-            .map(|(cell, width)| format!("{cell:width$}  "))
-            .collect();
+        let mut line = String::new();
+        for (place, cell) in row.iter().enumerate().filter(|(place, _)| used[*place]) {
+            line += &format!("{cell:width$}  ", width = widths[place]);
+        }
         writeln!(out, "{}", line.trim_end())?;
     }
     Ok(())

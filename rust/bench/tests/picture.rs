@@ -8,7 +8,7 @@ mod xml;
 
 use crank::{Machine, Record, NODE_WORDS};
 use crank_model::{damage, generate, nodes, rng::Rng, state, structured};
-use scratch::scratch;
+use scratch::{scratch, top};
 use std::fs;
 use std::path::Path;
 use std::process::Command;
@@ -19,11 +19,12 @@ const W: usize = 8;
 /// So many qifs have the most nodes: three each, and the root.
 const QIFS: u32 = 170;
 
-fn draw(folder: &Path, file: &str) -> String {
+/// The picture drawn after some commands.
+fn draw(folder: &Path, file: &str, before: &str) -> String {
     // Of an earlier one.
     let _ = fs::remove_file(folder.join("t.svg"));
     let drawn = Command::new(env!("CARGO_BIN_EXE_bench"))
-        .args([file, "-c", "picture t.svg"])
+        .args([file, "-c", &format!("{before}; picture t.svg")])
         .current_dir(folder)
         .output()
         .expect("bench");
@@ -116,7 +117,7 @@ fn check_machine(folder: &Path, machine: &Machine) -> Option<usize> {
     let image = machine.save().ok()?;
     fs::write(folder.join("t.img"), &image).expect("an image");
     let machine = Machine::load(&image).expect("what was saved");
-    Some(check(&machine, &draw(folder, "t.img")))
+    Some(check(&machine, &draw(folder, "t.img", "")))
 }
 
 fn with_table(table: Vec<u32>) -> Machine {
@@ -133,7 +134,7 @@ fn the_examples() {
         if path.extension().is_some_and(|extension| extension == "img") {
             let machine = Machine::load(&fs::read(&path).expect("it")).expect("an image");
             for extension in ["img", "qasm"] {
-                let svg = draw(&folder, &format!("examples/{name}.{extension}"));
+                let svg = draw(&folder, &format!("examples/{name}.{extension}"), "");
                 nodes += check(&machine, &svg);
                 pictures += 1;
             }
@@ -141,6 +142,15 @@ fn the_examples() {
     }
     println!("examples: {pictures} pictures, {nodes} nodes");
     assert!(pictures >= 24 && nodes > 50);
+}
+
+/// The picture in docs/BENCH.md is the one that the command beside it draws.
+#[test]
+fn the_picture_of_the_document() {
+    let folder = scratch("picture_document");
+    let picture = draw(&folder, "examples/qif_nested10.qasm", "f 5");
+    let kept = fs::read_to_string(top().join("docs/table.svg")).expect("docs/table.svg");
+    assert!(picture == kept, "docs/table.svg is to be drawn anew");
 }
 
 #[test]

@@ -8,10 +8,12 @@ mod scratch;
 use pty::{Terminal, CTRL_D};
 use scratch::scratch;
 use std::fs;
+use std::os::unix::process::ExitStatusExt;
 use std::path::Path;
 use std::process::Command;
 
 const CTRL_C: &str = "\x03";
+const SIGINT: i32 = 2;
 
 /// Round and round, with data that changes; r1 counts the rounds, so that l0 is reached from above
 /// with r1 0 and from l1 with r1 not 0.
@@ -28,9 +30,9 @@ l1:     bra  l0
 a:      .word 7
 ";
 
-fn bench(folder: &Path, file: &str) -> Terminal {
+fn bench(folder: &Path, arguments: &[&str]) -> Terminal {
     let mut bench = Command::new(env!("CARGO_BIN_EXE_bench"));
-    bench.arg(file).current_dir(folder);
+    bench.args(arguments).current_dir(folder);
     Terminal::spawn(bench)
 }
 
@@ -78,7 +80,7 @@ fn stop(terminal: &mut Terminal, command: &str, way: &str) -> u64 {
 fn ctrl_c_stops_a_run_with_exact_counts() {
     let folder = scratch("stops");
     fs::write(folder.join("endless.qasm"), ENDLESS).expect("a source");
-    let mut terminal = bench(&folder, "endless.qasm");
+    let mut terminal = bench(&folder, &["endless.qasm"]);
     let (greeting, _) = terminal.prompt();
     assert!(
         greeting.starts_with("endless.qasm: K 8, M 9, N 0; pc 0, at start\n"),
@@ -121,9 +123,21 @@ fn ctrl_c_stops_a_run_with_exact_counts() {
 }
 
 #[test]
+fn ctrl_c_ends_a_script() {
+    let folder = scratch("script");
+    fs::write(folder.join("endless.qasm"), ENDLESS).expect("a source");
+    let mut terminal = bench(&folder, &["endless.qasm", "-c", "run; save never.img"]);
+    terminal.wait(|new| new.ends_with(" turns "));
+    terminal.press(CTRL_C);
+    let (screen, status) = terminal.end();
+    assert_eq!(status.signal(), Some(SIGINT), "{screen}");
+    assert!(!folder.join("never.img").exists());
+}
+
+#[test]
 fn ctrl_c_at_the_prompt_gives_a_new_one() {
     let folder = scratch("prompt");
-    let mut terminal = bench(&folder, "examples/first.img");
+    let mut terminal = bench(&folder, &["examples/first.img"]);
     terminal.prompt();
     terminal.press("forward 1");
     terminal.wait(|new| new.ends_with("forward 1"));

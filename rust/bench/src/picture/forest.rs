@@ -29,7 +29,7 @@ struct Node {
     place: Place,
 }
 
-/// The nodes in the order in which they are met.
+/// The nodes, counted from 0.
 struct Forest {
     nodes: Vec<Node>,
 }
