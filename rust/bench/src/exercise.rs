@@ -1,7 +1,7 @@
 //! An exercise as it is opened: an image, or a source that is assembled first.
 
 use crank::{calls, meaning, Call, Machine};
-use crank_assembler::{assemble, files, Assembled};
+use crank_assembler::{assemble, files};
 use std::path::Path;
 
 /// What was read from a file.
@@ -25,21 +25,32 @@ impl Exercise {
     /// One line that names the file and says what is wrong.
     pub fn open(path: &Path) -> Result<Exercise, String> {
         let name = path.display();
-        let assembled = assembled(path)?;
-        let machine = Machine::load(&assembled.image).map_err(|refusal| {
+        let bytes = files::read(path)?;
+        if path.extension().is_none_or(|extension| extension != "qasm") {
+            return Exercise::load(path, &bytes);
+        }
+        let source = String::from_utf8(bytes).map_err(|_| format!("{name}: is no text"))?;
+        let assembled = assemble(&source).map_err(|e| format!("{name}: {e}"))?;
+        let warnings = assembled.warnings.iter();
+        Ok(Exercise {
+            warnings: warnings.map(|line| format!("{name}: {line}")).collect(),
+            labels: assembled.labels,
+            nodes: assembled.nodes,
+            ..Exercise::load(path, &assembled.image)?
+        })
+    }
+
+    fn load(path: &Path, image: &[u8]) -> Result<Exercise, String> {
+        let machine = Machine::load(image).map_err(|refusal| {
             let why = meaning(refusal, Call::Load);
-            format!("{name}: refused by {refusal}: {why}")
+            format!("{}: refused by {refusal}: {why}", path.display())
         })?;
         Ok(Exercise {
             machine,
-            preface: calls::preface(&assembled.image).to_vec(),
-            labels: assembled.labels,
-            nodes: assembled.nodes,
-            warnings: assembled
-                .warnings
-                .iter()
-                .map(|warning| format!("{name}: {warning}"))
-                .collect(),
+            preface: calls::preface(image).to_vec(),
+            labels: Vec::new(),
+            nodes: Vec::new(),
+            warnings: Vec::new(),
         })
     }
 
@@ -54,18 +65,4 @@ impl Exercise {
         let place = (node as usize).checked_sub(1)?;
         self.nodes.get(place)?.as_deref()
     }
-}
-
-/// The file's image; a source with its names.
-fn assembled(path: &Path) -> Result<Assembled, String> {
-    let name = path.display();
-    let bytes = files::read(path)?;
-    if path.extension().is_none_or(|extension| extension != "qasm") {
-        return Ok(Assembled {
-            image: bytes,
-            ..Assembled::default()
-        });
-    }
-    let source = String::from_utf8(bytes).map_err(|_| format!("{name}: is no text"))?;
-    assemble(&source).map_err(|e| format!("{name}: {e}"))
 }

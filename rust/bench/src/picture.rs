@@ -18,9 +18,9 @@ const LINE: i64 = 17;
 const LETTER: i64 = 8;
 const GAP: i64 = 26;
 const RISE: i64 = 64;
-const HEAD: i64 = 64;
+const HEAD: i64 = 76;
 /// How far a link that goes round a box stands out.
-const ASIDE: i64 = 32;
+const ASIDE: i64 = 60;
 /// Between the ends of the links at a node.
 const PORT: i64 = 22;
 /// Of coin 0 and coin 1.
@@ -105,7 +105,7 @@ impl Drawing<'_> {
         let right = self.frames.iter().map(|b| b.x + self.width / 2).max();
         let bottom = self.frames.iter().map(|b| b.y + b.height).max();
         let text = (LETTER - 1) * caption.chars().count().max(KEY.len()) as i64;
-        let width = right.unwrap_or(0).max(text) + 2 * MARGIN;
+        let width = right.unwrap_or(0).max(text) + 3 * MARGIN;
         let height = bottom.unwrap_or(HEAD) + MARGIN;
         self.svg += &format!(
             "<svg xmlns=\"http://www.w3.org/2000/svg\" width=\"{width}\" height=\"{height}\" \

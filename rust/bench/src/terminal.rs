@@ -80,7 +80,7 @@ impl Progress {
             self.next = now + PAUSE;
             self.shown = true;
             // A run goes on where this can't be written.
-            let _ = write!(io::stderr(), "\r{turns} turns ");
+            let _ = write!(io::stderr(), "\r{turns} turns; Ctrl-C stops ");
         }
     }
 }

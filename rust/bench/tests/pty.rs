@@ -14,6 +14,7 @@ use std::process::Command;
 
 const CTRL_C: &str = "\x03";
 const SIGINT: i32 = 2;
+const PROGRESS: &str = " turns; Ctrl-C stops ";
 
 /// Round and round, with data that changes; r1 counts the rounds, so that l0 is reached from above
 /// with r1 0 and from l1 with r1 not 0.
@@ -45,79 +46,75 @@ fn ask(terminal: &mut Terminal, command: &str) -> String {
     answer.strip_suffix("> ").expect("a prompt").to_string()
 }
 
-/// The turns in `stopped after N turns forward`.
-fn stopped(answer: &str, way: &str) -> u64 {
-    let (_, said) = answer.split_once("stopped after ").expect(answer);
+/// The turns in `stopped after N turns forward`, where the progress was erased before.
+fn stopped(answer: &str) -> u64 {
+    let (_, said) = answer.split_once("\x1b[Kstopped after ").expect(answer);
     let (count, rest) = said.split_once(" turns ").expect(answer);
-    assert!(rest.starts_with(way), "{answer}");
+    assert!(rest.starts_with("forward\n"), "{answer}");
     count.parse().expect("a number")
 }
 
 /// Runs until progress has shown, then Ctrl-C; gives the turns.
-fn stop(terminal: &mut Terminal, command: &str, way: &str) -> u64 {
+fn stop(terminal: &mut Terminal, command: &str) -> u64 {
     terminal.press(&format!("{command}\n"));
-    let (progress, _) = terminal.wait(|new| new.ends_with(" turns "));
+    let (progress, _) = terminal.wait(|new| new.ends_with(PROGRESS));
     let shown = progress.rsplit('\n').next().expect("a line");
-    let shown: u64 = shown
-        .trim()
-        .split(' ')
-        .next()
-        .unwrap()
-        .parse()
-        .expect(&progress);
+    let shown = shown.split(' ').next().expect("a number");
+    let shown: u64 = shown.parse().expect(&progress);
     terminal.press(CTRL_C);
     let (answer, _) = terminal.prompt();
-    assert!(
-        answer.contains("\x1b[Kstopped after"),
-        "not erased: {answer:?}"
-    );
-    let turns = stopped(&answer, way);
+    let turns = stopped(&answer);
     assert!(turns >= shown && shown > 0, "{turns} after {shown}");
     turns
 }
 
-#[test]
-fn ctrl_c_stops_a_run_with_exact_counts() {
-    let folder = scratch("stops");
+/// The endless exercise, opened in a folder of its own.
+fn endless(folder: &str) -> Terminal {
+    let folder = scratch(folder);
     fs::write(folder.join("endless.qasm"), ENDLESS).expect("a source");
     let mut terminal = bench(&folder, &["endless.qasm"]);
     let (greeting, _) = terminal.prompt();
-    assert!(
-        greeting.starts_with("endless.qasm: K 8, M 9, N 0; pc 0, at start\n"),
-        "{greeting}"
-    );
-    let state = |terminal: &mut Terminal| {
-        let shown = [ask(terminal, "regs"), ask(terminal, "m 0 8")];
-        shown.concat()
-    };
+    let want = "endless.qasm: K 8, M 9, N 0; pc 0, at start\nhelp lists the commands\n> ";
+    assert_eq!(greeting, want);
+    terminal
+}
+
+/// All registers and words, as they are shown.
+fn state(terminal: &mut Terminal) -> String {
+    ask(terminal, "regs") + &ask(terminal, "m 0 8")
+}
+
+#[test]
+fn ctrl_c_stops_a_run_with_exact_counts() {
+    let mut terminal = endless("stops");
     let before = state(&mut terminal);
-    let forward = stop(&mut terminal, "run", "forward");
-    let counts = format!("forward {forward}, back 0, net {forward}\n");
-    assert_eq!(ask(&mut terminal, "counts"), counts);
+    let turns = stop(&mut terminal, "run");
+    let counts = ask(&mut terminal, "counts");
+    assert_eq!(counts, format!("forward {turns}, back 0, net {turns}\n"));
     assert_ne!(state(&mut terminal), before);
-    let answer = ask(&mut terminal, &format!("b {forward}"));
-    assert!(
-        answer.contains(&format!("{forward} turns back\n")),
-        "{answer}"
-    );
-    assert_eq!(
-        ask(&mut terminal, "c"),
-        format!("forward {forward}, back {forward}, net 0\n")
-    );
+    let back = ask(&mut terminal, &format!("b {turns}"));
+    assert!(back.contains(&format!("{turns} turns back\n")), "{back}");
+    let counts = ask(&mut terminal, "c");
+    assert_eq!(counts, format!("forward {turns}, back {turns}, net 0\n"));
     assert_eq!(state(&mut terminal), before);
-    assert_eq!(
-        ask(&mut terminal, "b"),
-        "refused by 12: pc is at start; nothing changed\n"
-    );
-    // An address that is not reached: single turns, stopped as well.
-    let to = stop(&mut terminal, "to 7", "forward");
+    let refused = ask(&mut terminal, "b");
+    assert_eq!(refused, "refused by 12: pc is at start; nothing changed\n");
+    println!("run: stopped after {turns} turns, and turned back");
+    terminal.press("q\n");
+    assert!(terminal.end().1.success());
+}
+
+/// By single turns, to an address that is not reached.
+#[test]
+fn ctrl_c_stops_on_the_way_to_an_address() {
+    let mut terminal = endless("way");
+    let before = state(&mut terminal);
+    let turns = stop(&mut terminal, "to 7");
     let rewound = ask(&mut terminal, "rewind");
-    assert!(
-        rewound.contains(&format!("{to} turns back, then refused by 12")),
-        "{rewound}"
-    );
+    let want = format!("{turns} turns back, then refused by 12");
+    assert!(rewound.contains(&want), "{rewound}");
     assert_eq!(state(&mut terminal), before);
-    println!("stopped after {forward} turns and after {to}, and turned back");
+    println!("to: stopped after {turns} turns, and turned back");
     terminal.press("q\n");
     assert!(terminal.end().1.success());
 }
@@ -127,7 +124,7 @@ fn ctrl_c_ends_a_script() {
     let folder = scratch("script");
     fs::write(folder.join("endless.qasm"), ENDLESS).expect("a source");
     let mut terminal = bench(&folder, &["endless.qasm", "-c", "run; save never.img"]);
-    terminal.wait(|new| new.ends_with(" turns "));
+    terminal.wait(|new| new.ends_with(PROGRESS));
     terminal.press(CTRL_C);
     let (screen, status) = terminal.end();
     assert_eq!(status.signal(), Some(SIGINT), "{screen}");
