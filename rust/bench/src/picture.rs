@@ -122,20 +122,11 @@ impl Drawing<'_> {
     fn links(&mut self, node: usize) {
         let fields = &self.machine.table[NODE_WORDS * node..][..NODE_WORDS];
         for coin in 0..2 {
-            let side = 2 * coin as i64 - 1;
-            // From left to right fc0, lc0, fc1, lc1: a branch ends to the right of where it begins.
             if let Some(child) = self.drawn(fields[FC + coin]) {
-                self.child(
-                    node,
-                    child,
-                    [PORT * side - PORT / 2, -PORT / 2],
-                    coin,
-                    "link",
-                );
+                self.child(node, child, coin, false);
             }
             if let Some(child) = self.drawn(fields[LC + coin]) {
-                let ports = [PORT * side + PORT / 2, PORT / 2];
-                self.child(node, child, ports, coin, "link last");
+                self.child(node, child, coin, true);
             }
         }
         if let Some(next) = self.drawn(fields[NX]) {
@@ -149,10 +140,13 @@ impl Drawing<'_> {
         (place < self.frames.len()).then_some(place)
     }
 
-    /// A link for a coin, from the bottom of a box to the top of another.
-    fn child(&mut self, from: usize, to: usize, ports: [i64; 2], coin: usize, class: &str) {
+    /// The link to the first or last child for a coin, from the bottom of a box to the top of another.
+    fn child(&mut self, from: usize, to: usize, coin: usize, last: bool) {
         let (a, b) = (&self.frames[from], &self.frames[to]);
-        let [x1, x2] = [a.x + ports[0], b.x + ports[1]];
+        // From left to right fc0, lc0, fc1, lc1: a branch ends to the right of where it begins.
+        let port = if last { PORT / 2 } else { -PORT / 2 };
+        let class = if last { "link last" } else { "link" };
+        let [x1, x2] = [a.x + PORT * (2 * coin as i64 - 1) + port, b.x + port];
         let [y1, y2] = [a.y + a.height, b.y];
         // A link that does not lead down goes round its own box.
         let aside = if y2 > y1 {

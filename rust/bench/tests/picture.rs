@@ -154,6 +154,17 @@ fn the_picture_of_the_document() {
 }
 
 #[test]
+fn names_are_escaped() {
+    let folder = scratch("picture_names");
+    let source = "start\n.qifv &a\n.node &a fc0=@b w=2\n.node @b cf=&a\n";
+    fs::write(folder.join("names.qasm"), source).expect("a source");
+    let svg = draw(&folder, "names.qasm", "");
+    xml::elements(&svg);
+    assert!(svg.contains(">1 &amp;a</text>") && svg.contains(">2 @b</text>"));
+    assert!(svg.contains("it stands at node 1 &amp;a, wait 0<"));
+}
+
+#[test]
 fn chains_and_sizes() {
     let folder = scratch("picture_sizes");
     let chain = |fields: &[usize]| {
