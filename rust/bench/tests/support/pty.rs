@@ -8,11 +8,14 @@ use std::os::unix::fs::OpenOptionsExt;
 use std::os::unix::process::CommandExt;
 use std::process::{Child, Command, ExitStatus};
 use std::sync::mpsc::{self, Receiver};
+use std::sync::Mutex;
 use std::thread;
 use std::time::{Duration, Instant};
 
 const O_RDWR: c_int = 2;
 const O_NOCTTY: c_int = 0o400;
+/// So that no other program started meanwhile holds it open.
+const O_CLOEXEC: c_int = 0o2_000_000;
 const TIOCSCTTY: c_ulong = 0x540E;
 /// What a test waits for comes much sooner.
 const PATIENCE: Duration = Duration::from_secs(60);
@@ -41,12 +44,12 @@ pub struct Terminal {
 
 /// Both ends of a new terminal.
 fn open() -> (File, File) {
-    // SAFETY: plain calls; the name is copied before another could be made. Tests that run at once
-    // may get each other's name, so it is read under a lock.
-    static LOCK: std::sync::Mutex<()> = std::sync::Mutex::new(());
+    // ptsname has one place for its answer, and tests run at once.
+    static LOCK: Mutex<()> = Mutex::new(());
     let _guard = LOCK.lock();
+    // SAFETY: plain calls on a number that is owned here; the name is copied under the lock.
     let (master, name) = unsafe {
-        let number = posix_openpt(O_RDWR | O_NOCTTY);
+        let number = posix_openpt(O_RDWR | O_NOCTTY | O_CLOEXEC);
         assert!(number >= 0, "no terminal");
         let master = File::from_raw_fd(number);
         assert_eq!((grantpt(number), unlockpt(number)), (0, 0));
