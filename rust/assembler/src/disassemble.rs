@@ -1,10 +1,9 @@
 //! The source of an image: assembled, it gives the same bytes.
 
 use crate::branches::{branches, Branch};
-use crate::forms::{FIELDS, REGISTERS};
 use crate::instruction::Instruction;
 use crate::preface;
-use crank::{calls, Machine, Record, NODE_WORDS};
+use crank::{calls, Machine, Record, NODE_FIELDS, NODE_WORDS, REGISTERS};
 use std::collections::BTreeSet;
 use std::fmt::Write;
 
@@ -134,7 +133,11 @@ impl Disassembly {
     fn nodes(&mut self, table: &[u32]) {
         for (index, node) in table.chunks(NODE_WORDS).enumerate() {
             let mut statement = format!(".node {}", index + 1);
-            for (field, value) in FIELDS.iter().zip(node).filter(|(_, value)| **value != 0) {
+            for (field, value) in NODE_FIELDS
+                .iter()
+                .zip(node)
+                .filter(|(_, value)| **value != 0)
+            {
                 write!(statement, " {field}={value}").expect("a string takes all");
             }
             self.line("", &statement);

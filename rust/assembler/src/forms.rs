@@ -1,18 +1,8 @@
-//! The names of registers and node fields, and the forms of the instructions: one line each, for
-//! writing words and for reading them.
+//! The forms of the instructions: one line each, for writing words and for reading them.
 
 use crate::text::{is_name, quoted, split_word};
 use crate::Checked;
-
-pub const REGISTERS: [&str; 16] = [
-    "pc", "br", "ro", "sp", "r1", "r2", "r3", "r4", "r5", "r6", "r7", "r8", "r9", "r10", "r11",
-    "r12",
-];
-pub const PC: i64 = 0;
-pub const BR: i64 = 1;
-
-/// The words of a node.
-pub const FIELDS: [&str; 9] = ["fc0", "fc1", "lc0", "lc1", "cf", "cl", "nx", "pr", "w"];
+use crank::REGISTERS;
 
 /// Names and signs of a gate or an operation; entry i has number i + 1.
 type Names = &'static [&'static [&'static str]];

@@ -1,9 +1,10 @@
 //! An instruction between its word and its text.
 
 use crate::forms::Kind::{Address, Imm, Offset, Para, Reg, RegPc};
-use crate::forms::{Form, Kind, BR, PC, REGISTERS};
+use crate::forms::{Form, Kind};
 use crate::text::in_range;
 use crate::Checked;
+use crank::{BR, PC, REGISTERS};
 
 /// A form with the values of its operands; registers, gates and operations by number.
 pub struct Instruction {
@@ -84,10 +85,10 @@ impl Instruction {
 }
 
 fn register_allowed(kind: Kind, register: i64, named: &[i64]) -> Checked<()> {
-    if register == BR {
+    if register == BR as i64 {
         return Err("br is never named in an instruction".into());
     }
-    if register == PC && matches!(kind, Reg) {
+    if register == PC as i64 && matches!(kind, Reg) {
         return Err("pc cannot stand in this place".into());
     }
     if named.contains(&register) {

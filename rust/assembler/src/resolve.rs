@@ -1,12 +1,13 @@
 //! Resolving: the words that the operands of a source stand for.
 
-use crate::forms::{para_number, register_number, Form, Kind, FIELDS};
+use crate::forms::{para_number, register_number, Form, Kind};
 use crate::instruction::Instruction;
 use crate::source::{Place, Setting, Source, Word};
 use crate::text::{
     as_count, as_word, number, operands, quoted, split_word, starts_name, without_parentheses, FROM,
 };
 use crate::Checked;
+use crank::NODE_FIELDS;
 use crank::{Record, NODE_WORDS};
 
 /// The last field; the others are links.
@@ -41,7 +42,7 @@ impl Source<'_> {
         for part in fields.iter().flat_map(|part| part.split_whitespace()) {
             let (place, value) = field(part)?;
             if std::mem::replace(&mut seen[place], true) {
-                return Err(format!("the field {} is written twice", FIELDS[place]));
+                return Err(format!("the field {} is written twice", NODE_FIELDS[place]));
             }
             node[place] = match place {
                 W => as_count(number(value)?)?,
@@ -137,7 +138,7 @@ fn field(part: &str) -> Checked<(usize, &str)> {
             ));
         }
     };
-    FIELDS
+    NODE_FIELDS
         .iter()
         .position(|field| field.eq_ignore_ascii_case(name))
         .map(|place| (place, value))

@@ -1,11 +1,12 @@
 //! Reading a source: its words, labels, nodes and settings, with operands left as they are written.
 
-use crate::forms::{register_number, Form, REGISTERS};
+use crate::forms::{register_number, Form};
 use crate::text::{
     is_name, leading_label, lines, number, operands, quoted, split_item, split_word,
     without_comment, FROM,
 };
 use crate::{preface, Checked, Error};
+use crank::REGISTERS;
 use crank::{MAX_NODES, MAX_WORDS};
 use std::collections::HashMap;
 

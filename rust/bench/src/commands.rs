@@ -4,6 +4,7 @@ use crate::desk::{Desk, Stretch};
 use crate::picture::picture;
 use crate::show;
 use crate::typed;
+use crate::words::counted;
 use crank::{meaning, Call, Direction, Machine};
 use crank_assembler::files;
 use std::io::{self, Write};
@@ -83,15 +84,17 @@ const COMMANDS: &[Command] = &[
 ///
 /// A bad command, a fault of the output, or quit.
 pub fn run(desk: &mut Desk, text: &str, out: &mut dyn Write) -> Done {
-    let words: Vec<&str> = text.split_whitespace().collect();
-    let Some((name, arguments)) = words.split_first() else {
+    let text = text.trim();
+    if text.is_empty() {
         return Ok(());
-    };
-    let Some(command) = COMMANDS.iter().find(|row| row.names.contains(name)) else {
+    }
+    let (name, rest) = text.split_once(char::is_whitespace).unwrap_or((text, ""));
+    let Some(command) = COMMANDS.iter().find(|row| row.names.contains(&name)) else {
         let name = typed::quoted(name);
         return Err(format!("there is no command {name}; help lists them").into());
     };
     let takes: Vec<&str> = command.takes.split_whitespace().collect();
+    let arguments = arguments(command, rest.trim());
     let needed = takes.iter().filter(|taken| !taken.starts_with('[')).count();
     if arguments.len() < needed {
         return Err(format!("{name} needs {}", command.takes).into());
@@ -100,7 +103,15 @@ pub fn run(desk: &mut Desk, text: &str, out: &mut dyn Write) -> Done {
         let extra = typed::quoted(extra);
         return Err(format!("{name} does not take {extra}").into());
     }
-    (command.run)(desk, arguments, out)
+    (command.run)(desk, &arguments, out)
+}
+
+/// What stands behind a command's name; the name of a file may have blanks in it.
+fn arguments<'a>(command: &Command, rest: &'a str) -> Vec<&'a str> {
+    if command.takes.starts_with("FILE") && !rest.is_empty() {
+        return vec![rest];
+    }
+    rest.split_whitespace().collect()
 }
 
 /// The table of the commands.
@@ -186,7 +197,7 @@ fn table(desk: &mut Desk, _: &[&str], out: &mut dyn Write) -> Done {
 fn draw(desk: &mut Desk, arguments: &[&str], out: &mut dyn Write) -> Done {
     let svg = picture(&desk.machine, &desk.exercise);
     files::write(Path::new(arguments[0]), svg.as_bytes())?;
-    let nodes = show::counted(desk.machine.record.n.into(), "node");
+    let nodes = counted(desk.machine.record.n.into(), "node");
     Ok(writeln!(out, "drawn in {}: {nodes}", arguments[0])?)
 }
 

@@ -2,9 +2,8 @@
 
 use crate::exercise::Exercise;
 use crate::interrupt;
-use crate::show::PC;
 use crate::terminal::Progress;
-use crank::{Direction, Machine, Made};
+use crank::{Direction, Machine, Made, PC};
 use std::fmt;
 
 /// The turns between two looks at Ctrl-C.
@@ -101,7 +100,7 @@ impl Desk {
             if interrupt::raised() {
                 break End::Stopped;
             }
-            progress.show(turns);
+            progress.show(|| format!("{turns} turns; Ctrl-C stops "));
         };
         match direction {
             Direction::Forward => self.counts.forward += turns,

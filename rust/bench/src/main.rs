@@ -13,6 +13,7 @@ mod session;
 mod show;
 mod terminal;
 mod typed;
+mod words;
 
 use std::env;
 use std::ffi::OsString;

@@ -7,9 +7,7 @@ mod differences;
 mod judge;
 mod list;
 mod many;
-mod progress;
 mod report;
-mod words;
 
 use crate::exercise::Exercise;
 use arguments::Asked;

@@ -3,7 +3,8 @@
 mod forest;
 
 use crate::exercise::Exercise;
-use crate::show::{self, FIELDS};
+use crate::show;
+use crank::NODE_FIELDS;
 use crank::{Machine, NODE_WORDS};
 use forest::Place;
 
@@ -246,7 +247,7 @@ fn lines(number: u32, fields: &[u32], machine: &Machine, exercise: &Exercise) ->
     if record.qifv == number && record.qifw != 0 {
         lines.push(format!("{} still to wait", record.qifw));
     }
-    for (field, link) in FIELDS[..W].iter().zip(fields) {
+    for (field, link) in NODE_FIELDS[..W].iter().zip(fields) {
         if *link > record.n {
             lines.push(format!("{field} = {link}"));
         }

@@ -7,6 +7,8 @@ use crate::interrupt;
 use crate::show;
 use crate::terminal::{self, Line};
 use crate::typed;
+use crate::words::word;
+use crank::PC;
 use crank_assembler::files;
 use std::ffi::{OsStr, OsString};
 use std::io::{self, BufWriter, IsTerminal, Write};
@@ -15,7 +17,8 @@ use std::path::Path;
 const USAGE: &str = "\
 usage: bench FILE               obeys commands, one a line, from a terminal or a pipe
        bench FILE -c COMMANDS   obeys these, with ; between them
-       bench mark ...           marks what is handed in
+       bench mark HAND-IN FORWARD BACK [--from BEGINNING]
+                                marks what is handed in; bench mark --help says more
 FILE is an image, or a source whose name ends in .qasm.
 
 commands:";
@@ -103,7 +106,7 @@ fn session(file: &Path, commands: Option<&str>, out: &mut dyn Write) -> Result<(
 
 fn greet(file: &Path, desk: &Desk, out: &mut dyn Write) -> io::Result<()> {
     let record = &desk.machine.record;
-    let pc = show::word(record.regs[show::PC]);
+    let pc = word(record.regs[PC]);
     let place = show::place(&desk.machine);
     write!(out, "{}: ", file.display())?;
     write!(out, "K {}, M {}, N {}; ", record.k, record.m, record.n)?;

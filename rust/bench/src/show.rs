@@ -2,39 +2,17 @@
 
 use crate::desk::{Desk, End, Stretch};
 use crate::exercise::Exercise;
-use crank::{meaning, Call, Direction, Machine, NODE_WORDS};
+use crate::words::{counted, word};
+use crank::{meaning, Call, Direction, Machine, BR, NODE_FIELDS, NODE_WORDS, PC, REGISTERS};
 use crank_assembler::instruction_text;
 use std::collections::BTreeMap;
 use std::io::{self, Write};
 use std::ops::RangeInclusive;
 
-const REGISTERS: [&str; 16] = [
-    "pc", "br", "ro", "sp", "r1", "r2", "r3", "r4", "r5", "r6", "r7", "r8", "r9", "r10", "r11",
-    "r12",
-];
-pub const PC: usize = 0;
-const BR: usize = 1;
-/// The fields of a node.
-pub const FIELDS: [&str; NODE_WORDS] = ["fc0", "fc1", "lc0", "lc1", "cf", "cl", "nx", "pr", "w"];
 /// The words shown before pc and behind it.
 const AROUND: usize = 4;
 /// The registers on a line.
 const COLUMNS: usize = 4;
-
-/// A word in decimal, with what it is in hexadecimal and signed where that may help.
-pub fn word(value: u32) -> String {
-    match value {
-        0..0x1_0000 => value.to_string(),
-        0x1_0000..0x8000_0000 => format!("{value} ({value:#x})"),
-        _ => format!("{value} ({value:#x}, {})", value as i32),
-    }
-}
-
-/// So many of a thing.
-pub fn counted(count: u64, thing: &str) -> String {
-    let ending = if count == 1 { "" } else { "s" };
-    format!("{count} {thing}{ending}")
-}
 
 /// A node by its number and its name.
 pub fn node(number: u32, exercise: &Exercise) -> String {
@@ -160,7 +138,11 @@ pub fn table(out: &mut dyn Write, desk: &Desk) -> io::Result<()> {
 /// The fields of a node that are not 0, as a source has them.
 fn links(fields: &[u32], exercise: &Exercise) -> String {
     let mut parts = Vec::new();
-    for (field, value) in FIELDS.iter().zip(fields).filter(|(_, value)| **value != 0) {
+    for (field, value) in NODE_FIELDS
+        .iter()
+        .zip(fields)
+        .filter(|(_, value)| **value != 0)
+    {
         match exercise.node_name(*value).filter(|_| *field != "w") {
             Some(name) => parts.push(format!("{field}={name}")),
             None => parts.push(format!("{field}={value}")),

@@ -60,7 +60,8 @@ pub fn read_line(input: &mut impl BufRead) -> io::Result<Line> {
     }
 }
 
-/// The turns of a run as they are made, on a terminal only; erased when dropped.
+/// How far a long piece of work is: a line on standard error that is written over, on a terminal
+/// only; erased when dropped.
 pub struct Progress {
     next: Instant,
     shown: bool,
@@ -74,22 +75,28 @@ impl Progress {
         }
     }
 
-    pub fn show(&mut self, turns: u64) {
+    pub fn show(&mut self, text: impl FnOnce() -> String) {
         let now = Instant::now();
         if now >= self.next && io::stderr().is_terminal() {
             self.next = now + PAUSE;
             self.shown = true;
-            // A run goes on where this can't be written.
-            let _ = write!(io::stderr(), "\r{turns} turns; Ctrl-C stops ");
+            // The work goes on where this can't be written.
+            let _ = write!(io::stderr(), "\r{}", text());
+        }
+    }
+
+    /// Makes room for a line of the output.
+    pub fn erase(&mut self) {
+        // The terminal itself writes ^C.
+        if self.shown || interrupt::raised() && io::stderr().is_terminal() {
+            let _ = write!(io::stderr(), "\r\x1b[K");
+            self.shown = false;
         }
     }
 }
 
 impl Drop for Progress {
     fn drop(&mut self) {
-        // The terminal itself writes ^C.
-        if self.shown || interrupt::raised() && io::stderr().is_terminal() {
-            let _ = write!(io::stderr(), "\r\x1b[K");
-        }
+        self.erase();
     }
 }

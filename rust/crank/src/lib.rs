@@ -45,8 +45,20 @@ pub use meaning::{meaning, Call};
 pub const MAX_WORDS: usize = 8192;
 /// The most nodes of the qif table, N.
 pub const MAX_NODES: usize = 511;
-/// The words of a node: fc0 fc1 lc0 lc1 cf cl nx pr w.
+/// The words of a node.
 pub const NODE_WORDS: usize = 9;
+/// The words of a node by name.
+pub const NODE_FIELDS: [&str; NODE_WORDS] =
+    ["fc0", "fc1", "lc0", "lc1", "cf", "cl", "nx", "pr", "w"];
+/// The registers by name.
+pub const REGISTERS: [&str; 16] = [
+    "pc", "br", "ro", "sp", "r1", "r2", "r3", "r4", "r5", "r6", "r7", "r8", "r9", "r10", "r11",
+    "r12",
+];
+/// The place of pc among the registers.
+pub const PC: usize = 0;
+/// The place of br among the registers.
+pub const BR: usize = 1;
 /// The most bytes of a file that can be loaded, preface and image.
 pub const MAX_FILE: usize = 65_536;
 /// The bytes that are enough for any image, without a preface.
@@ -56,7 +68,7 @@ pub const MAX_IMAGE: usize = 4 * MAX_WORDS + 4 * NODE_WORDS * MAX_NODES + 92;
 #[repr(C)]
 #[derive(Clone, Copy, Debug, Default, PartialEq, Eq, Hash)]
 pub struct Record {
-    /// pc br ro sp r1 .. r12
+    /// In the order of [`REGISTERS`].
     pub regs: [u32; 16],
     /// The current node, 0 for none.
     pub qifv: u32,

@@ -1,5 +1,6 @@
 //! The two counts of a hand-in, and the turns that lead from it to its beginning.
 
+use crate::typed;
 use crank::Direction;
 
 /// A count of turns as it is written: decimal, or hexadecimal behind 0x.
@@ -8,16 +9,8 @@ use crank::Direction;
 ///
 /// One line, where it is no number or too large.
 pub fn count(text: &str) -> Result<u64, String> {
-    let (digits, radix) = match text.strip_prefix("0x") {
-        Some(digits) => (digits, 16),
-        None => (text, 10),
-    };
-    // Rust's own parser takes a sign.
-    let bare = digits.starts_with(|first: char| first.is_digit(radix));
-    match u64::from_str_radix(digits, radix) {
-        Ok(count) if bare => Ok(count),
-        _ => Err(format!("count {text} is no number from 0 to {}", u64::MAX)),
-    }
+    typed::number(text, u64::MAX)
+        .map_err(|_| format!("count {text} is no number from 0 to {}", u64::MAX))
 }
 
 /// The turns that undo a hand-in's: as many as one count exceeds the other, the other way.

@@ -1,11 +1,7 @@
 //! Where two states differ.
 
-use super::words::{FIELDS, REGISTERS};
-use crank::{Machine, NODE_WORDS};
+use crank::{Machine, NODE_FIELDS, NODE_WORDS, PC, REGISTERS};
 use std::fmt;
-
-/// The number of pc among the registers.
-const PC: usize = 0;
 
 /// A place of a state that holds a word.
 #[derive(Clone, Copy, Debug, PartialEq)]
@@ -36,7 +32,7 @@ impl fmt::Display for Place {
             Place::Code(address) => write!(f, "code word {address}"),
             Place::Data(address) => write!(f, "data word {address}"),
             Place::Table(index) => {
-                let (node, field) = (index / NODE_WORDS + 1, FIELDS[index % NODE_WORDS]);
+                let (node, field) = (index / NODE_WORDS + 1, NODE_FIELDS[index % NODE_WORDS]);
                 write!(f, "node {node} {field}")
             }
         }

@@ -3,10 +3,10 @@
 use super::cores;
 use super::judge::Judged;
 use super::list::{self, Entry, HandIn};
-use super::progress::Progress;
 use super::report;
-use super::words::counted;
 use crate::exercise::Exercise;
+use crate::terminal::Progress;
+use crate::words::counted;
 use crank::Machine;
 use crank_assembler::files;
 use std::io::Write;
@@ -40,7 +40,7 @@ pub fn mark(
 ) -> Result<bool, String> {
     let entries = list::read(list)?;
     let mut verdicts = Vec::new();
-    let mut progress = Progress::new(entries.len());
+    let mut progress = Progress::new();
     let work = |entry: &Entry| mark_entry(entry, beginning);
     cores::in_order(&entries, work, |marked| {
         verdicts.push(marked.verdict);
@@ -49,7 +49,7 @@ pub fn mark(
         writeln!(out, "{}", marked.line)
             .and_then(|()| out.flush())
             .map_err(|e| files::output_fault(&e))?;
-        progress.show(verdicts.len());
+        progress.show(|| format!("{} of {}", verdicts.len(), entries.len()));
         Ok(())
     })?;
     progress.erase();

@@ -2,7 +2,7 @@
 
 use super::differences::{not_zero, Difference};
 use super::judge::{Ending, Judged, MAX_ON};
-use super::words::{counted, word};
+use crate::words::{counted, word};
 use crank::{meaning, Call, Direction};
 use std::io::{self, Write};
 
