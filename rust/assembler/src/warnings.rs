@@ -1,4 +1,4 @@
-//! What is taken, but refused in every turn that comes to it.
+//! What is taken, but can hardly be meant: an `ld` of no data word, a link that nothing pairs.
 
 use crate::forms::Form;
 use crate::instruction::Instruction;
@@ -9,7 +9,6 @@ use crank::Machine;
 /// The warnings on a source that became `machine`, in the order of lines.
 pub fn of(source: &Source<'_>, machine: &Machine) -> Vec<Warning> {
     let mut warnings = addresses(source, machine);
-    warnings.extend(no_node(source, machine));
     warnings.extend(unpaired(source, machine));
     warnings.sort_by_key(|warning| warning.line);
     warnings
@@ -42,23 +41,6 @@ fn addresses(source: &Source<'_>, machine: &Machine) -> Vec<Warning> {
             Some(Warning { line, message })
         })
         .collect()
-}
-
-/// The first qif or fiq, where qifv is no node: only these words change it.
-fn no_node(source: &Source<'_>, machine: &Machine) -> Option<Warning> {
-    let (qifv, n) = (machine.record.qifv, machine.record.n);
-    if (1..=n).contains(&qifv) {
-        return None;
-    }
-    let (line, instruction) = instructions(source, machine)
-        .find(|(_, instruction)| matches!(instruction.form.name, "qif" | "fiq"))?;
-    let name = instruction.form.name;
-    let why = match n {
-        0 => "there is no .node".to_string(),
-        _ => format!("qifv is {qifv}, nodes are 1 to {n}"),
-    };
-    let message = format!("{why}, so this {name} is refused by 17 in a turn");
-    Some(Warning { line, message })
 }
 
 /// The lowest node with an unpaired link, as the proved check tells it.

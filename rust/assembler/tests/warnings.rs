@@ -30,31 +30,6 @@ fn addresses() {
     assert_eq!(ends_by(source), 15);
 }
 
-#[test]
-fn nodes_that_are_none() {
-    let table = [
-        (
-            "start\nfiq r1",
-            "line 2: warning: there is no .node, so this fiq",
-        ),
-        (
-            "qif r1\nfiq r1\n.node 1",
-            "line 1: warning: qifv is 0, nodes are 1 to 1, so this qif",
-        ),
-        (
-            "qif r1\n.node 1\n.qifv 2",
-            "line 1: warning: qifv is 2, nodes are 1 to 1, so this qif",
-        ),
-    ];
-    for (source, front) in table {
-        assert_eq!(
-            warnings(source),
-            [format!("{front} is refused by 17 in a turn")]
-        );
-        assert_eq!(ends_by(source), 17, "{source}");
-    }
-}
-
 /// The lowest node alone is told, and a word that is no instruction does not hide it.
 #[test]
 fn unpaired_links() {
@@ -86,7 +61,7 @@ fn by_line() {
         .iter()
         .map(|warning| warning.line)
         .collect();
-    assert_eq!(lines, [1, 2, 3]);
+    assert_eq!(lines, [1, 3]);
 }
 
 #[test]
@@ -96,6 +71,8 @@ fn none() {
         // Written as numbers, code words are nobody's mistake.
         "start\n.word 0x01400001, 7, 0x18400000",
         "qif r1\n.qifv 1\n.node 1 fc0=2\n.node 2 cf=1",
+        // Where a qif leads is a turn's question.
+        "start\nqif r1\n.node 1\n.qifv 2",
     ] {
         assert_eq!(warnings(source), [""; 0], "{source}");
     }
