@@ -6,7 +6,7 @@
 ;   Q[0] <= skip   Q[1] <= X[t0]   Q[2] <= X[t1]   Q[3] <= X[t0]; X[t1]
 ;
 ; so x = 2 q[2] + q[1] is copied into the target qubits t1 and t0. Here
-; q[2] = 1 and q[1] = 0: x = 2, t1 = 1, t0 = 0. Other coins: change the word &q.
+; q[2] = 1 and q[1] = 0: x = 2, t1 = 1, t0 = 0. Other coins: the words at &q.
 ;
 ; The words are those of document 003, Figure 18; line numbers there are given
 ; for every block. What had to be changed:

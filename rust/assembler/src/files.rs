@@ -38,6 +38,23 @@ pub fn read_from(input: impl Read) -> Result<Vec<u8>, String> {
     }
 }
 
+/// The text of a source.
+///
+/// # Errors
+///
+/// The reason why it is none, without a name.
+pub fn text(bytes: Vec<u8>) -> Result<String, String> {
+    // An image can be taken for UTF-8; no text has a byte 0.
+    if bytes.contains(&0) {
+        return Err("is no source text: it has a byte 0".to_string());
+    }
+    String::from_utf8(bytes).map_err(|e| {
+        let good = &e.as_bytes()[..e.utf8_error().valid_up_to()];
+        let line = 1 + good.iter().filter(|byte| **byte == b'\n').count();
+        format!("line {line}: is no UTF-8 text")
+    })
+}
+
 /// Writes the whole file or leaves what was there: into a new file beside it, which then takes its
 /// name.
 ///
@@ -46,19 +63,7 @@ pub fn read_from(input: impl Read) -> Result<Vec<u8>, String> {
 /// A line that says why it can't be written.
 pub fn write(path: &Path, bytes: &[u8]) -> Result<(), String> {
     let fault = |e: io::Error| format!("{}: {}", path.display(), reason(&e));
-    // What a link names is written, not the link; a device or a folder is left alone.
-    let target = fs::canonicalize(path).unwrap_or_else(|_| path.to_path_buf());
-    let old = fs::metadata(&target).ok();
-    match &old {
-        Some(old) if !old.is_file() => {
-            return Err(format!("{}: is no regular file", path.display()))
-        }
-        // The new file would take its place all the same.
-        Some(old) if old.permissions().readonly() => {
-            return Err(format!("{}: is read-only", path.display()))
-        }
-        _ => {}
-    }
+    let (target, old) = replaced(path)?;
     let beside = beside(&target);
     let written = File::create_new(&beside)
         .and_then(|mut file| {
@@ -74,6 +79,27 @@ pub fn write(path: &Path, bytes: &[u8]) -> Result<(), String> {
         let _ = fs::remove_file(&beside);
         fault(e)
     })
+}
+
+/// The file to be replaced, and what is known of it if it is there. What a link names is replaced,
+/// not the link; devices, folders, and files that may not be written, are left alone.
+fn replaced(path: &Path) -> Result<(PathBuf, Option<fs::Metadata>), String> {
+    let no = |why: &str| Err(format!("{}: {why}", path.display()));
+    let Ok(target) = fs::canonicalize(path) else {
+        return match fs::symlink_metadata(path) {
+            Ok(_) => no("is a link to nothing"),
+            Err(_) => Ok((path.to_path_buf(), None)),
+        };
+    };
+    match fs::metadata(&target) {
+        Ok(old) if !old.is_file() => no("is no regular file"),
+        // The new file would take its place all the same.
+        Ok(old) if old.permissions().readonly() => no("is read-only"),
+        old => match File::options().write(true).open(&target) {
+            Ok(_) => Ok((target, old.ok())),
+            Err(e) => no(&reason(&e)),
+        },
+    }
 }
 
 /// A name in the same folder that no other run uses.

@@ -134,15 +134,14 @@ impl Form {
 /// What was meant by a line that begins with no mnemonic.
 fn unknown(name: &str, rest: &str) -> String {
     let what = format!("unknown instruction {}", quoted(name));
-    if let Some(form) = Form::with_para(name) {
-        return format!("{what}; it is written with {}", form.name);
-    }
     let next = split_word(rest).0;
-    let before_a_line = rest.is_empty() || next.starts_with('.') || Form::named(next).is_some();
-    if is_name(name) && before_a_line {
-        return format!("{what}; a label ends with a colon");
+    let before_a_line = next.starts_with('.') || Form::named(next).is_some();
+    match Form::with_para(name) {
+        _ if is_name(name) && before_a_line => format!("{what}; a label ends with a colon"),
+        Some(form) => format!("{what}; it is written with {}", form.name),
+        None if is_name(name) && rest.is_empty() => format!("{what}; a label ends with a colon"),
+        None => what,
     }
-    what
 }
 
 /// The number of a register.

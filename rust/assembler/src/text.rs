@@ -109,7 +109,11 @@ pub fn number(text: &str) -> Checked<i64> {
         _ => (unsigned, 10),
     };
     if digits.is_empty() || !digits.chars().all(|c| c.is_digit(radix)) {
-        return Err(format!("{} is not a number", quoted(text)));
+        let what = format!("{} is not a number", quoted(text));
+        return Err(match text.contains([' ', '\t']) {
+            true => format!("{what}; commas stand between values"),
+            false => what,
+        });
     }
     let value = u32::from_str_radix(digits, radix)
         .map(i64::from)

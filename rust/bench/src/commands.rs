@@ -1,6 +1,7 @@
 //! The commands: a row and a function each.
 
 use crate::desk::{Desk, Stretch};
+use crate::exercise;
 use crate::picture::picture;
 use crate::show;
 use crate::typed;
@@ -74,7 +75,7 @@ const COMMANDS: &[Command] = &[
         does: "the state as opened, counts 0" },
     Command { names: &["h", "help", "?"], takes: "", run: help,
         does: "this table" },
-    Command { names: &["q", "quit"], takes: "", run: quit,
+    Command { names: &["q", "quit", "exit"], takes: "", run: quit,
         does: "ends; so does the end of the input" },
 ];
 
@@ -109,7 +110,10 @@ pub fn run(desk: &mut Desk, text: &str, out: &mut dyn Write) -> Done {
 /// What stands behind a command's name; the name of a file may have blanks in it.
 fn arguments<'a>(command: &Command, rest: &'a str) -> Vec<&'a str> {
     if command.takes.starts_with("FILE") && !rest.is_empty() {
-        return vec![rest];
+        let quoted = rest
+            .strip_prefix('"')
+            .and_then(|name| name.strip_suffix('"'));
+        return vec![quoted.unwrap_or(rest)];
     }
     rest.split_whitespace().collect()
 }
@@ -195,6 +199,10 @@ fn table(desk: &mut Desk, _: &[&str], out: &mut dyn Write) -> Done {
 }
 
 fn draw(desk: &mut Desk, arguments: &[&str], out: &mut dyn Write) -> Done {
+    if !arguments[0].ends_with(".svg") {
+        let name = arguments[0];
+        return Err(format!("{name}: a picture's name ends in .svg").into());
+    }
     let svg = picture(&desk.machine, &desk.exercise);
     files::write(Path::new(arguments[0]), svg.as_bytes())?;
     let nodes = counted(desk.machine.record.n.into(), "node");
@@ -217,6 +225,10 @@ fn counts(desk: &mut Desk, _: &[&str], out: &mut dyn Write) -> Done {
 }
 
 fn save(desk: &mut Desk, arguments: &[&str], out: &mut dyn Write) -> Done {
+    if exercise::is_source(Path::new(arguments[0])) {
+        let name = arguments[0];
+        return Err(format!("{name}: an image can't be saved as a source").into());
+    }
     let image = desk.machine.save().map_err(|refusal| {
         let why = meaning(refusal, Call::Save);
         format!("refused by {refusal}: {why}")

@@ -100,7 +100,7 @@ impl Desk {
             if interrupt::raised() {
                 break End::Stopped;
             }
-            progress.show(|| format!("{turns} turns; Ctrl-C stops "));
+            progress.show(|| progress_text(turns));
         };
         match direction {
             Direction::Forward => self.counts.forward += turns,
@@ -131,4 +131,13 @@ fn turns_to(machine: &mut Machine, count: u64, address: u32) -> (Made, bool) {
         refusal: 0,
     };
     (made, false)
+}
+
+/// Ctrl-C stops a run only where commands are typed.
+fn progress_text(turns: u64) -> String {
+    let stops = match interrupt::installed() {
+        true => "; Ctrl-C stops ",
+        false => "",
+    };
+    format!("{turns} turns{stops}")
 }

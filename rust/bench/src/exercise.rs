@@ -4,6 +4,15 @@ use crank::{calls, meaning, Call, Machine};
 use crank_assembler::{assemble, files};
 use std::path::Path;
 
+/// The refusal of a file that is no image at all.
+const NO_IMAGE: u32 = 2;
+
+/// Whether a file is a source, by its name.
+pub fn is_source(path: &Path) -> bool {
+    path.extension()
+        .is_some_and(|extension| extension == "qasm")
+}
+
 /// What was read from a file.
 pub struct Exercise {
     pub machine: Machine,
@@ -26,10 +35,10 @@ impl Exercise {
     pub fn open(path: &Path) -> Result<Exercise, String> {
         let name = path.display();
         let bytes = files::read(path)?;
-        if path.extension().is_none_or(|extension| extension != "qasm") {
+        if !is_source(path) {
             return Exercise::load(path, &bytes);
         }
-        let source = String::from_utf8(bytes).map_err(|_| format!("{name}: is no text"))?;
+        let source = files::text(bytes).map_err(|why| format!("{name}: {why}"))?;
         let assembled = assemble(&source).map_err(|e| format!("{name}: {e}"))?;
         let warnings = assembled.warnings.iter();
         Ok(Exercise {
@@ -43,7 +52,11 @@ impl Exercise {
     fn load(path: &Path, image: &[u8]) -> Result<Exercise, String> {
         let machine = Machine::load(image).map_err(|refusal| {
             let why = meaning(refusal, Call::Load);
-            format!("{}: refused by {refusal}: {why}", path.display())
+            let hint = match refusal {
+                NO_IMAGE => "; a source has a name that ends in .qasm",
+                _ => "",
+            };
+            format!("{}: refused by {refusal}: {why}{hint}", path.display())
         })?;
         Ok(Exercise {
             machine,

@@ -3,6 +3,7 @@
 use std::ffi::c_int;
 use std::sync::atomic::{AtomicBool, Ordering};
 
+static INSTALLED: AtomicBool = AtomicBool::new(false);
 static RAISED: AtomicBool = AtomicBool::new(false);
 
 const SIGINT: c_int = 2;
@@ -23,6 +24,12 @@ pub fn install() {
         signal(SIGINT, raise);
         siginterrupt(SIGINT, 1);
     }
+    INSTALLED.store(true, Ordering::Relaxed);
+}
+
+/// Whether it is.
+pub fn installed() -> bool {
+    INSTALLED.load(Ordering::Relaxed)
 }
 
 /// Whether Ctrl-C was pressed since the last [`clear`].

@@ -10,6 +10,7 @@ mod many;
 mod report;
 
 use crate::exercise::Exercise;
+use crate::terminal::Progress;
 use arguments::Asked;
 use crank::Machine;
 use crank_assembler::files;
@@ -58,7 +59,11 @@ fn mark(out: &mut impl Write, asked: Asked) -> Result<bool, String> {
         Asked::One { hand_in, net, from } => {
             let beginning = open(from)?;
             let hand_in = Exercise::open(hand_in)?.machine;
-            let judged = Judged::new(hand_in.clone(), net, beginning.as_ref());
+            let mut progress = Progress::new();
+            let judged = Judged::new(hand_in.clone(), net, beginning.as_ref(), |turns| {
+                progress.show(|| format!("{turns} of {} turns", net.turns));
+            });
+            progress.erase();
             let ending = Ending::new(hand_in, &judged);
             report::single(out, &judged, &ending).map_err(fault)?;
             Ok(judged.fits())

@@ -15,11 +15,12 @@ use std::io::{self, BufWriter, IsTerminal, Write};
 use std::path::Path;
 
 const USAGE: &str = "\
-usage: bench FILE               obeys commands, one a line, from a terminal or a pipe
-       bench FILE -c COMMANDS   obeys these, with ; between them
+usage: bench FILE               obeys commands, from a terminal or a pipe
+       bench FILE -c COMMANDS   obeys these
        bench mark HAND-IN FORWARD BACK [--from BEGINNING]
                                 marks what is handed in; bench mark --help says more
-FILE is an image, or a source whose name ends in .qasm.
+FILE is an image, or a source whose name ends in .qasm. Commands stand one a line or with ;
+between them.
 
 commands:";
 
@@ -56,25 +57,30 @@ pub fn run(arguments: &[OsString]) -> Result<u8, String> {
 }
 
 fn asked(arguments: &[OsString]) -> Result<Asked<'_>, String> {
-    let (mut file, mut commands) = (None, None);
+    let (mut files, mut commands) = (Vec::new(), None);
     let mut rest = arguments.iter();
     while let Some(argument) = rest.next() {
-        if argument == "--help" || argument == "-h" {
-            return Ok(Asked::Help);
-        } else if argument == "-c" {
-            let given = rest.next().ok_or("-c needs the commands behind it")?;
-            let given = given.to_str().ok_or("the commands are no text in UTF-8")?;
-            if commands.replace(given).is_some() {
-                return Err("-c is given twice".to_string());
+        match argument.to_str() {
+            Some("--help" | "-h") => return Ok(Asked::Help),
+            Some("--") => files.extend(rest.by_ref()),
+            Some("-c") => {
+                let given = rest.next().ok_or("-c needs the commands behind it")?;
+                let given = given.to_str().ok_or("the commands are no text in UTF-8")?;
+                if commands.replace(given).is_some() {
+                    return Err("-c is given twice".to_string());
+                }
             }
-        } else if argument.as_encoded_bytes().starts_with(b"-") {
-            return Err(format!("there is no option {}", shown(argument)));
-        } else if file.replace(argument.as_os_str()).is_some() {
-            return Err(format!("{} is one file too many", shown(argument)));
+            _ if argument.as_encoded_bytes().starts_with(b"-") => {
+                return Err(format!("there is no option {}", shown(argument)));
+            }
+            _ => files.push(argument),
         }
     }
-    let file = file.ok_or("a file is needed; bench --help says more")?;
-    Ok(Asked::Session { file, commands })
+    match files.as_slice() {
+        [file] => Ok(Asked::Session { file, commands }),
+        [] => Err("a file is needed; bench --help says more".to_string()),
+        [_, second, ..] => Err(format!("{} is one file too many", shown(second))),
+    }
 }
 
 fn shown(argument: &OsStr) -> String {
@@ -93,8 +99,8 @@ fn session(file: &Path, commands: Option<&str>, out: &mut dyn Write) -> Result<(
     }
     let mut desk = Desk::new(exercise);
     if let Some(commands) = commands {
-        let mut each = commands.split([';', '\n']);
-        return each.try_for_each(|command| obey(&mut desk, command, out));
+        let mut lines = commands.lines();
+        return lines.try_for_each(|line| obey(&mut desk, line, out));
     }
     if !io::stdin().is_terminal() {
         return from_pipe(&mut desk, out);
@@ -111,14 +117,19 @@ fn greet(file: &Path, desk: &Desk, out: &mut dyn Write) -> io::Result<()> {
     write!(out, "{}: ", file.display())?;
     write!(out, "K {}, M {}, N {}; ", record.k, record.m, record.n)?;
     writeln!(out, "pc {pc}{place}")?;
+    if !desk.machine.at_start() {
+        writeln!(out, "counts begin at 0: add those of what came before")?;
+    }
     writeln!(out, "help lists the commands")
 }
 
-/// Obeys a command; its answer is out before the next one.
-fn obey(desk: &mut Desk, command: &str, out: &mut dyn Write) -> Result<(), Stop> {
-    let done = commands::run(desk, command, out);
-    out.flush()?;
-    done
+/// Obeys the commands of a line up to a bad one; the answer of each is out before the next.
+fn obey(desk: &mut Desk, line: &str, out: &mut dyn Write) -> Result<(), Stop> {
+    line.split(';').try_for_each(|command| {
+        let done = commands::run(desk, command, out);
+        out.flush()?;
+        done
+    })
 }
 
 /// Commands from a pipe or a file: a bad one ends the program.

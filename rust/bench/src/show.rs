@@ -2,9 +2,8 @@
 
 use crate::desk::{Desk, End, Stretch};
 use crate::exercise::Exercise;
-use crate::words::{counted, word};
+use crate::words::{counted, instruction, word};
 use crank::{meaning, Call, Direction, Machine, BR, NODE_FIELDS, NODE_WORDS, PC, REGISTERS};
-use crank_assembler::instruction_text;
 use std::collections::BTreeMap;
 use std::io::{self, Write};
 use std::ops::RangeInclusive;
@@ -77,7 +76,11 @@ pub fn place_in_code(out: &mut dyn Write, desk: &Desk) -> io::Result<()> {
     writeln!(out, "pc {pc}, br {br}, node {node}, wait {wait}{place}")?;
     let (here, last) = (record.regs[PC] as usize, record.m as usize - 1);
     if here > last {
-        return writeln!(out, "no memory word is at pc; M is {}", record.m);
+        return writeln!(
+            out,
+            "no memory word is at pc; M is {}; b turns back to where it came from",
+            record.m
+        );
     }
     let first = here.saturating_sub(AROUND);
     words(out, desk, first..=last.min(here + AROUND))
@@ -100,19 +103,14 @@ pub fn words(out: &mut dyn Write, desk: &Desk, addresses: RangeInclusive<usize>)
         };
         let label = labels.get(&address).map_or("", |label| label.trim_end());
         let mut row = vec![format!("{mark} {address:width$}"), label.to_string()];
+        let value = desk.machine.mem[address];
         row.extend(match address < record.k as usize {
-            true => code_word(desk.machine.mem[address]),
-            false => vec![word(desk.machine.mem[address])],
+            true => vec![instruction(value), format!("{value:#010x}")],
+            false => vec![word(value)],
         });
         rows.push(row);
     }
     columns(out, &rows)
-}
-
-/// An instruction and its word.
-fn code_word(value: u32) -> Vec<String> {
-    let text = instruction_text(value).unwrap_or_else(|| "no instruction".to_string());
-    vec![text, format!("{value:#010x}")]
 }
 
 /// The qif table: the links that are not 0 and the waits; a star at the present node.

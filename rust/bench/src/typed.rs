@@ -31,8 +31,10 @@ pub fn number(text: &str, most: u64) -> Result<u64, String> {
 ///
 /// A line that says what is wrong with it.
 pub fn address(text: &str, exercise: &Exercise) -> Result<u32, String> {
-    if let Some(address) = exercise.address_of(text) {
-        return Ok(address);
+    // A label may have no sign in it, but the number behind one has.
+    let (label, more) = text.split_at(text.find(['+', '-']).unwrap_or(text.len()));
+    if let Some(address) = exercise.address_of(label) {
+        return beyond(address, more);
     }
     if text.starts_with(|c: char| c.is_ascii_digit()) {
         return Ok(number(text, u64::from(u32::MAX))? as u32);
@@ -42,6 +44,17 @@ pub fn address(text: &str, exercise: &Exercise) -> Result<u32, String> {
         false => "",
     };
     Err(format!("there is no label {}{hint}", quoted(text)))
+}
+
+/// An address so many words behind another, or before it: `+2`, `-1`, or nothing.
+fn beyond(address: u32, more: &str) -> Result<u32, String> {
+    let (sign, digits) = more.split_at(more.len().min(1));
+    let address = match sign {
+        "" => Some(address),
+        "+" => address.checked_add(number(digits, u64::from(u32::MAX))? as u32),
+        _ => address.checked_sub(number(digits, u64::from(u32::MAX))? as u32),
+    };
+    address.ok_or_else(|| format!("there is no address {more} from there"))
 }
 
 /// What was typed, in a fault: its beginning, on one line.

@@ -1,4 +1,6 @@
-//! Numbers as they are printed.
+//! Words and numbers as they are printed.
+
+use crank_assembler::instruction_text;
 
 /// A word in decimal; a large one in hexadecimal too, and signed where it may be meant so.
 pub fn word(value: u32) -> String {
@@ -7,6 +9,16 @@ pub fn word(value: u32) -> String {
         0x1_0000..0x8000_0000 => format!("{value} ({value:#x})"),
         _ => format!("{value} ({value:#x}, {})", value as i32),
     }
+}
+
+/// A code word as an instruction.
+pub fn code_word(value: u32) -> String {
+    format!("{} ({value:#010x})", instruction(value))
+}
+
+/// The instruction that a word is.
+pub fn instruction(value: u32) -> String {
+    instruction_text(value).unwrap_or_else(|| "no instruction".to_string())
 }
 
 /// A number with its noun: `1 turn`, `2 turns`.

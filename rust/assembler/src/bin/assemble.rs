@@ -1,7 +1,7 @@
 //! `assemble [--listing] [-o IMAGE] [SOURCE]`: the assembler as a program.
 
 use crank_assembler::program::{print, Arguments, Program};
-use crank_assembler::{assemble, listing};
+use crank_assembler::{assemble, files, listing};
 use std::process::ExitCode;
 
 const USAGE: &str = "\
@@ -41,14 +41,5 @@ fn work(program: &Program, arguments: &Arguments) -> Result<(), String> {
 }
 
 fn text(arguments: &Arguments) -> Result<String, String> {
-    let bytes = arguments.read()?;
-    // An image can be taken for UTF-8; no text has a byte 0.
-    if bytes.contains(&0) {
-        return Err(arguments.about("is no source text: it has a byte 0"));
-    }
-    String::from_utf8(bytes).map_err(|e| {
-        let good = &e.as_bytes()[..e.utf8_error().valid_up_to()];
-        let line = 1 + good.iter().filter(|byte| **byte == b'\n').count();
-        arguments.about(format!("line {line}: is no UTF-8 text"))
-    })
+    files::text(arguments.read()?).map_err(|why| arguments.about(why))
 }

@@ -7,6 +7,9 @@ use crank::{Direction, Machine, Made};
 /// The most turns that a hand-in is run on to see where its code leads.
 pub const MAX_ON: u64 = 1_000_000;
 
+/// The turns between two looks at how far it is.
+const CHUNK: u64 = 10_000_000;
+
 /// A hand-in turned by its net count.
 pub struct Judged {
     pub net: Net,
@@ -20,9 +23,22 @@ pub struct Judged {
 }
 
 impl Judged {
-    pub fn new(hand_in: Machine, net: Net, beginning: Option<&Machine>) -> Judged {
+    /// Turns the hand-in; `watch` is told of the turns made, now and then.
+    pub fn new(
+        hand_in: Machine,
+        net: Net,
+        beginning: Option<&Machine>,
+        mut watch: impl FnMut(u64),
+    ) -> Judged {
         let mut turned = hand_in;
-        let made = turned.turns(net.direction, net.turns);
+        let (mut turns, mut refusal) = (0, 0);
+        while refusal == 0 && turns < net.turns {
+            let more = turned.turns(net.direction, CHUNK.min(net.turns - turns));
+            turns += more.turns;
+            refusal = more.refusal;
+            watch(turns);
+        }
+        let made = Made { turns, refusal };
         Judged {
             net,
             made,
@@ -43,6 +59,27 @@ impl Judged {
                 Some(differences) => differences.is_empty(),
                 None => self.at_start,
             }
+    }
+}
+
+/// Where a hand-in itself stands.
+pub enum Stand {
+    Start,
+    /// With what its code left changed since start, where that is known.
+    Finish(Option<Vec<Difference>>),
+    Between,
+}
+
+impl Stand {
+    pub fn new(hand_in: &Machine, judged: &Judged) -> Stand {
+        if hand_in.at_finish() {
+            let changed = || left_changed(&judged.turned, hand_in);
+            return Stand::Finish(judged.at_start.then(changed));
+        }
+        match hand_in.at_start() {
+            true => Stand::Start,
+            false => Stand::Between,
+        }
     }
 }
 

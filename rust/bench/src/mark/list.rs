@@ -52,6 +52,11 @@ fn hand_in(folder: &Path, line: &[u8]) -> Result<HandIn, String> {
     let line = str::from_utf8(line).map_err(|_| "is no text".to_string())?;
     let (line, back) = last_field(line);
     let (name, forward) = last_field(line);
+    // A spreadsheet may put the name between quotation marks.
+    let quoted = name
+        .strip_prefix('"')
+        .and_then(|name| name.strip_suffix('"'));
+    let name = quoted.unwrap_or(name);
     if name.is_empty() {
         return Err("a name and two counts are needed".to_string());
     }
@@ -65,7 +70,7 @@ fn hand_in(folder: &Path, line: &[u8]) -> Result<HandIn, String> {
 
 /// What stands before the last field, and the field.
 fn last_field(text: &str) -> (&str, &str) {
-    let separates = |c: char| c.is_whitespace() || c == ',';
+    let separates = |c: char| c.is_whitespace() || c == ',' || c == ';';
     let text = text.trim_end_matches(separates);
     match text.rfind(separates) {
         Some(at) => {

@@ -1,7 +1,7 @@
 //! The hand-ins of a list, a line for each in the list's order.
 
 use super::cores;
-use super::judge::Judged;
+use super::judge::{Judged, Stand};
 use super::list::{self, Entry, HandIn};
 use super::report;
 use crate::exercise::Exercise;
@@ -11,6 +11,9 @@ use crank::Machine;
 use crank_assembler::files;
 use std::io::Write;
 use std::path::Path;
+
+/// The most places that a line names.
+const MAX_NAMES: usize = 6;
 
 /// The most turns for one hand-in of a list, so that a slip in a count does not hold up the rest.
 const MAX_TURNS: u64 = 1_000_000_000;
@@ -64,8 +67,11 @@ fn mark_entry(entry: &Entry, beginning: Option<&Machine>) -> Marked {
         Err(no) => (format!("line {}", no.line), Err(no.fault.clone())),
     };
     let (verdict, said) = match judged {
-        Ok(judged) if judged.fits() => (Verdict::Fits, report::verdict(&judged).to_string()),
-        Ok(judged) => (Verdict::DoesNotFit, short(&judged)),
+        Ok((judged, stand)) if judged.fits() => {
+            let (verdict, stands) = (report::verdict(&judged), stands(&stand));
+            (Verdict::Fits, format!("{verdict}; {stands}"))
+        }
+        Ok((judged, _)) => (Verdict::DoesNotFit, short(&judged)),
         Err(fault) => (Verdict::NotMarked, format!("cannot be marked: {fault}")),
     };
     Marked {
@@ -74,7 +80,7 @@ fn mark_entry(entry: &Entry, beginning: Option<&Machine>) -> Marked {
     }
 }
 
-fn judge(hand_in: &HandIn, beginning: Option<&Machine>) -> Result<Judged, String> {
+fn judge(hand_in: &HandIn, beginning: Option<&Machine>) -> Result<(Judged, Stand), String> {
     let turns = hand_in.net.turns;
     if turns > MAX_TURNS {
         return Err(format!(
@@ -89,7 +95,28 @@ fn judge(hand_in: &HandIn, beginning: Option<&Machine>) -> Result<Judged, String
             return Err(fault.strip_prefix(&path).unwrap_or(&fault).to_string());
         }
     };
-    Ok(Judged::new(machine, hand_in.net, beginning))
+    let judged = Judged::new(machine.clone(), hand_in.net, beginning, |_| {});
+    let stand = Stand::new(&machine, &judged);
+    Ok((judged, stand))
+}
+
+/// Where a hand-in stands, and at finish what it left changed.
+fn stands(stand: &Stand) -> String {
+    let list = match stand {
+        Stand::Start => return "at start".to_string(),
+        Stand::Between => return "not at finish".to_string(),
+        Stand::Finish(None) => return "at finish".to_string(),
+        Stand::Finish(Some(list)) => list,
+    };
+    let mut names: Vec<String> = list.iter().map(|d| d.place.to_string()).collect();
+    if names.is_empty() {
+        names.push("nothing but pc".to_string());
+    }
+    if let Some(more) = names.len().checked_sub(MAX_NAMES).filter(|more| *more > 0) {
+        names.truncate(MAX_NAMES);
+        names.push(format!("and {more} more"));
+    }
+    format!("at finish, left changed: {}", names.join(", "))
 }
 
 /// Why a hand-in does not fit, in one line.
@@ -104,7 +131,7 @@ fn short(judged: &Judged) -> String {
             let first = report::difference(first);
             format!("{verdict}: {first}; and {} more", more.len())
         }
-        _ => verdict.to_string(),
+        _ => format!("{verdict}: all turns are accepted, but it is not start"),
     }
 }
 

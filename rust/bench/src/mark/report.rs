@@ -1,8 +1,8 @@
 //! What is found out, in words.
 
-use super::differences::{not_zero, Difference};
+use super::differences::{not_zero, Difference, Place};
 use super::judge::{Ending, Judged, MAX_ON};
-use crate::words::{counted, word};
+use crate::words::{code_word, counted, word};
 use crank::{meaning, Call, Direction};
 use std::io::{self, Write};
 
@@ -29,7 +29,7 @@ pub fn single(out: &mut impl Write, judged: &Judged, ending: &Ending) -> io::Res
                 "{left}: cannot be told, since it does not stand at start"
             )
         }
-        None => writeln!(out, "{left}: cannot be told, since there is no finish"),
+        None => writeln!(out, "{left}: cannot be told, since finish is not reached"),
     }
 }
 
@@ -64,7 +64,11 @@ pub fn verdict(judged: &Judged) -> &'static str {
 
 /// A place, with what should be there and what is.
 pub fn difference(d: &Difference) -> String {
-    let value = |value: Option<u32>| value.map_or("none".to_string(), word);
+    let shown = match d.place {
+        Place::Code(_) => code_word,
+        _ => word,
+    };
+    let value = |value: Option<u32>| value.map_or("none".to_string(), shown);
     let (expected, found) = (value(d.expected), value(d.found));
     format!("{} expected {expected}, found {found}", d.place)
 }

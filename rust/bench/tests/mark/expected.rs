@@ -79,12 +79,23 @@ pub fn word(value: u32) -> String {
     }
 }
 
+fn code_word(value: u32) -> String {
+    let text = crank_assembler::instruction_text(value);
+    let text = text.unwrap_or("no instruction".to_string());
+    format!("{text} (0x{value:08x})")
+}
+
 /// The lines of the differences, in any order.
 pub fn differences(expected: &Machine, found: &Machine) -> Vec<String> {
     let (e, f) = (named(expected, expected), named(found, expected));
     let get = |list: &[(String, u32)], name: &str| {
         let at = list.iter().find(|(other, _)| other == name);
-        at.map_or("none".to_string(), |(_, value)| word(*value))
+        let shown = if name.starts_with("code") {
+            code_word
+        } else {
+            word
+        };
+        at.map_or("none".to_string(), |(_, value)| shown(*value))
     };
     let changed = |list: &[(String, u32)], other: &[(String, u32)]| {
         let other: std::collections::HashSet<_> = other.iter().cloned().collect();
@@ -171,7 +182,7 @@ pub fn tail(hand_in: &Machine, forward: u64, back: u64) -> Vec<String> {
     let left = match (at_start(&start), refusal) {
         (false, _) => "cannot be told, since it does not stand at start".to_string(),
         (true, 12) => changes(&start, &end),
-        (true, _) => "cannot be told, since there is no finish".to_string(),
+        (true, _) => "cannot be told, since finish is not reached".to_string(),
     };
     vec![
         finish,

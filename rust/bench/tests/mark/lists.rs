@@ -15,6 +15,12 @@ fn hand_ins(folder: &Folder) {
     write("right.img", |_| {});
     write("group 4, exercise 3.img", |_| {});
     write("0.img", |_| {});
+    write("start.img", |m| {
+        m.turns(Direction::Back, 7);
+    });
+    write("finish.img", |m| {
+        m.turns(Direction::Forward, 28);
+    });
     write("register.img", |m| m.record.regs[6] += 2);
     write("registers.img", |m| m.record.regs[8..].fill(65_536));
     write("pc.img", |m| m.record.regs[0] = 77);
@@ -39,22 +45,35 @@ fn hand_ins(folder: &Folder) {
 }
 
 /// What a line of the list should give.
-const LINES: [(&str, &str); 33] = [
-    ("right.img 7 0", "right.img: fits"),
-    ("right.img,10,3", "right.img: fits"),
-    ("  right.img\t0x107 , 0x100  ", "right.img: fits"),
+const LINES: [(&str, &str); 37] = [
+    ("start.img 5 5", "start.img: fits; at start"),
+    (
+        "finish.img 35 0",
+        "finish.img: fits; at finish, left changed: r2, r3",
+    ),
+    ("\"right.img\";7;0", "right.img: fits; not at finish"),
+    ("\"right.img\", 7, 0", "right.img: fits; not at finish"),
+    ("right.img 7 0", "right.img: fits; not at finish"),
+    ("right.img,10,3", "right.img: fits; not at finish"),
+    (
+        "  right.img\t0x107 , 0x100  ",
+        "right.img: fits; not at finish",
+    ),
     ("# right.img 7 1", ""),
     ("", ""),
     (
         "group 4, exercise 3.img 7 0",
-        "group 4, exercise 3.img: fits",
+        "group 4, exercise 3.img: fits; not at finish",
     ),
-    ("0.img 7 0", "0.img: fits"),
-    ("preface.img 7 0", "preface.img: fits"),
-    ("folder/inner.img 7 0", "folder/inner.img: fits"),
+    ("0.img 7 0", "0.img: fits; not at finish"),
+    ("preface.img 7 0", "preface.img: fits; not at finish"),
+    (
+        "folder/inner.img 7 0",
+        "folder/inner.img: fits; not at finish",
+    ),
     (
         "right.img 18446744073709551615 18446744073709551608",
-        "right.img: fits",
+        "right.img: fits; not at finish",
     ),
     (
         "right.img 6 0",
@@ -100,8 +119,8 @@ const LINES: [(&str, &str); 33] = [
     ),
     (
         "code.img 7 0",
-        "code.img: does not fit: code word 9 expected 452984832 (0x1b000000), \
-         found 4294967295 (0xffffffff, -1)",
+        "code.img: does not fit: code word 9 expected finish (0x1b000000), \
+         found no instruction (0xffffffff)",
     ),
     (
         "data.img 7 0",
@@ -124,7 +143,7 @@ const LINES: [(&str, &str); 33] = [
     (
         "more.img 7 0",
         "more.img: cannot be marked: refused by 2: \
-         the last four bytes are not those of an image",
+         the last four bytes are not those of an image; a source has a name that ends in .qasm",
     ),
     (
         "cut.img 7 0",
@@ -133,22 +152,22 @@ const LINES: [(&str, &str); 33] = [
     ),
     (
         "right.img 7",
-        "line 29: cannot be marked: a name and two counts are needed",
+        "line 33: cannot be marked: a name and two counts are needed",
     ),
     (
         "right.img seven 0",
-        "line 30: cannot be marked: count seven is no number from 0 to 18446744073709551615",
+        "line 34: cannot be marked: count seven is no number from 0 to 18446744073709551615",
     ),
     (
         "right.img 7 -1",
-        "line 31: cannot be marked: count -1 is no number from 0 to 18446744073709551615",
+        "line 35: cannot be marked: count -1 is no number from 0 to 18446744073709551615",
     ),
     (
         "right.img 1000000001 0",
         "right.img: cannot be marked: net count 1000000001 is more than the 1000000000 \
          that a list turns",
     ),
-    ("right.img 7 0", "right.img: fits"),
+    ("right.img 7 0", "right.img: fits; not at finish"),
 ];
 
 fn list(end: &str) -> String {
@@ -167,7 +186,7 @@ fn every_kind_of_line() {
     let folder = Folder::new("list");
     hand_ins(&folder);
     let from = examples().join("loop.qasm").display().to_string();
-    let summary = "31 hand-ins: 9 fit, 13 do not fit, 9 cannot be marked";
+    let summary = "35 hand-ins: 13 fit, 13 do not fit, 9 cannot be marked";
     let expected = Ran::quiet(1, said(summary));
     for text in [list("\n"), list("\r\n"), format!("\u{feff}{}", list("\n"))] {
         folder.write("list", text);
@@ -192,7 +211,7 @@ fn statuses() {
         (
             format!("{right} 7 0"),
             0,
-            format!("{right}: fits\n1 hand-in: 1 fits, 0 do not fit, 0"),
+            format!("{right}: fits; not at finish\n1 hand-in: 1 fits, 0 do not fit, 0"),
         ),
         (
             "right.img 7 7".to_string(),
@@ -227,17 +246,17 @@ fn without_a_beginning() {
         b"right.img 7 0\nregister.img 7 0\nright.img 8 0\nright.img 6 0\n\xFF 1 2\n",
     );
     let report = "\
-right.img: comes back to start
-register.img: comes back to start
+right.img: comes back to start; not at finish
+register.img: comes back to start; not at finish
 right.img: does not come back to start: turn 8 of 8 back was refused by 12: pc is at start
-right.img: does not come back to start
+right.img: does not come back to start: all turns are accepted, but it is not start
 line 5: cannot be marked: is no text
 5 hand-ins: 2 come back to start, 2 do not, 1 cannot be marked
 ";
     assert_eq!(folder.mark(&["--list", "list"]), Ran::quiet(1, report));
     folder.write("list", "right.img 7 0\n");
     let report = "\
-right.img: comes back to start
+right.img: comes back to start; not at finish
 1 hand-in: 1 comes back to start, 0 do not, 0 cannot be marked
 ";
     assert_eq!(folder.mark(&["--list", "list"]), Ran::quiet(0, report));
