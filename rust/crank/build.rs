@@ -25,8 +25,8 @@ fn archive(folder: &Path, name: &str) -> Option<PathBuf> {
     }
     println!(
         "cargo::error=the proved library {} is missing. In the project's top folder run \
-         `rt staticlib {name}` and build again; for libraries kept elsewhere set CAPI_DIR to \
-         their folder.",
+         `rt staticlib {name}`, or `sh build.sh` for all; for libraries kept elsewhere set \
+         CAPI_DIR to their folder, by its whole path.",
         archive.display()
     );
     None

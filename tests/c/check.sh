@@ -41,6 +41,9 @@ exported() {
 compile "$cc" -std=c11 -fsyntax-only -x c "$header" || fail 'the header is no C11'
 if command -v "$cxx" >/dev/null 2>&1; then
     compile "$cxx" -fsyntax-only -x c++ "$header" || fail 'the header is no C++'
+else
+    echo "header: there is no $cxx, so it is not tried as C++"
+    cxx=
 fi
 
 # Preprocessed, since comments mention calls too.
@@ -72,4 +75,10 @@ grep '^\$ ' "$scratch/shown" | sed 's/^\$ //' >"$scratch/commands"
 [ -s "$scratch/lesson.c" ] && [ -s "$scratch/commands" ] || fail 'CALLS.md has no program'
 (cd "$scratch" && sh -e commands >printed 2>&1) || fail "the program of CALLS.md: $(cat "$scratch/printed")"
 grep -v '^\$ ' "$scratch/shown" | cmp -s - "$scratch/printed" || fail 'CALLS.md shows something else'
+if [ -n "$cxx" ]; then
+    # The same program as C++ finds the calls by their C names.
+    (cd "$scratch" && "$cxx" -Iinclude -x c++ lesson.c -x none target/staticlib/libcapi.a -o lesson++) ||
+        fail 'the program of CALLS.md as C++'
+    (cd "$scratch" && ./lesson++ examples/loop.img) | cmp -s - "$scratch/printed" || fail 'the C++ program'
+fi
 echo "CALLS.md: $(wc -l <"$scratch/commands") commands"

@@ -17,7 +17,7 @@ pub fn read(path: &Path) -> Result<Vec<u8>, String> {
     File::open(path)
         .map_err(|e| reason(&e))
         .and_then(read_from)
-        .map_err(|reason| format!("{}: {reason}", path.display()))
+        .map_err(|reason| format!("{}: {reason}", shown(path)))
 }
 
 /// All that can be read.
@@ -62,29 +62,42 @@ pub fn text(bytes: Vec<u8>) -> Result<String, String> {
 ///
 /// A line that says why it can't be written.
 pub fn write(path: &Path, bytes: &[u8]) -> Result<(), String> {
-    let fault = |e: io::Error| format!("{}: {}", path.display(), reason(&e));
+    let fault = |e: io::Error| format!("{}: {}", shown(path), reason(&e));
     let (target, old) = replaced(path)?;
-    let beside = beside(&target);
-    let written = File::create_new(&beside)
-        .and_then(|mut file| {
-            if let Some(old) = &old {
-                file.set_permissions(old.permissions())?;
-            }
-            file.write_all(bytes)?;
-            file.sync_all()
-        })
-        .and_then(|()| fs::rename(&beside, &target));
+    let (beside, file) = create_beside(&target).map_err(fault)?;
+    let written = fill(file, bytes, old).and_then(|()| fs::rename(&beside, &target));
     written.map_err(|e| {
-        // It may not exist; the fault to tell is the first one.
+        // The fault to tell is the first one.
         let _ = fs::remove_file(&beside);
         fault(e)
     })
 }
 
+/// Writes a new file, with the permissions of the one that it replaces.
+fn fill(mut file: File, bytes: &[u8], old: Option<fs::Metadata>) -> io::Result<()> {
+    if let Some(old) = old {
+        file.set_permissions(old.permissions())?;
+    }
+    file.write_all(bytes)?;
+    file.sync_all()
+}
+
+/// A new file in the same folder, under a name that is not taken.
+fn create_beside(target: &Path) -> io::Result<(PathBuf, File)> {
+    for attempt in 0.. {
+        let beside = target.with_file_name(format!(".write-{}-{attempt}", process::id()));
+        match File::create_new(&beside) {
+            Err(e) if e.kind() == io::ErrorKind::AlreadyExists => {}
+            created => return Ok((beside, created?)),
+        }
+    }
+    unreachable!("some name is free")
+}
+
 /// The file to be replaced, and what is known of it if it is there. What a link names is replaced,
 /// not the link; devices, folders, and files that may not be written, are left alone.
 fn replaced(path: &Path) -> Result<(PathBuf, Option<fs::Metadata>), String> {
-    let no = |why: &str| Err(format!("{}: {why}", path.display()));
+    let no = |why: &str| Err(format!("{}: {why}", shown(path)));
     let Ok(target) = fs::canonicalize(path) else {
         return match fs::symlink_metadata(path) {
             Ok(_) => no("is a link to nothing"),
@@ -102,10 +115,13 @@ fn replaced(path: &Path) -> Result<(PathBuf, Option<fs::Metadata>), String> {
     }
 }
 
-/// A name in the same folder that no other run uses.
-fn beside(target: &Path) -> PathBuf {
-    let name = target.file_name().unwrap_or_default().to_string_lossy();
-    target.with_file_name(format!(".{name}.{}", process::id()))
+/// A name on one line, whatever it holds.
+pub fn shown(path: &Path) -> String {
+    let escaped = |c: char| match c.is_control() {
+        true => c.escape_default().to_string(),
+        false => c.to_string(),
+    };
+    path.to_string_lossy().chars().map(escaped).collect()
 }
 
 /// The system's words for a fault, without its number.

@@ -92,7 +92,7 @@ impl Program {
     }
 
     fn refused(&self, why: &str, argument: &OsString) -> String {
-        let argument = argument.to_string_lossy();
+        let argument = files::shown(argument.as_ref());
         format!("{why} {argument}; see {} --help", self.name)
     }
 }
@@ -114,7 +114,7 @@ fn apart(arguments: &Arguments) -> Result<(), String> {
     match (fs::canonicalize(input), fs::canonicalize(output)) {
         (Ok(read), Ok(written)) if read == written => Err(format!(
             "{}: is read, and so it is not written",
-            output.display()
+            files::shown(output)
         )),
         _ => Ok(()),
     }
@@ -137,7 +137,7 @@ impl Arguments {
     /// A line about the input: behind its name, if it has one.
     pub fn about(&self, line: impl std::fmt::Display) -> String {
         match &self.input {
-            Some(path) => format!("{}: {line}", path.display()),
+            Some(path) => format!("{}: {line}", files::shown(path)),
             None => line.to_string(),
         }
     }

@@ -10,7 +10,7 @@ const NO_IMAGE: u32 = 2;
 /// Whether a file is a source, by its name.
 pub fn is_source(path: &Path) -> bool {
     path.extension()
-        .is_some_and(|extension| extension == "qasm")
+        .is_some_and(|extension| extension.eq_ignore_ascii_case("qasm"))
 }
 
 /// What was read from a file.
@@ -33,7 +33,7 @@ impl Exercise {
     ///
     /// One line that names the file and says what is wrong.
     pub fn open(path: &Path) -> Result<Exercise, String> {
-        let name = path.display();
+        let name = files::shown(path);
         let bytes = files::read(path)?;
         if !is_source(path) {
             return Exercise::load(path, &bytes);
@@ -56,7 +56,7 @@ impl Exercise {
                 NO_IMAGE => "; a source has a name that ends in .qasm",
                 _ => "",
             };
-            format!("{}: refused by {refusal}: {why}{hint}", path.display())
+            format!("{}: refused by {refusal}: {why}{hint}", files::shown(path))
         })?;
         Ok(Exercise {
             machine,

@@ -114,7 +114,7 @@ fn greet(file: &Path, desk: &Desk, out: &mut dyn Write) -> io::Result<()> {
     let record = &desk.machine.record;
     let pc = word(record.regs[PC]);
     let place = show::place(&desk.machine);
-    write!(out, "{}: ", file.display())?;
+    write!(out, "{}: ", files::shown(file))?;
     write!(out, "K {}, M {}, N {}; ", record.k, record.m, record.n)?;
     writeln!(out, "pc {pc}{place}")?;
     if !desk.machine.at_start() {
@@ -147,6 +147,8 @@ fn from_pipe(desk: &mut Desk, out: &mut dyn Write) -> Result<(), Stop> {
 /// Commands as they are typed: after a bad one it goes on.
 fn at_terminal(desk: &mut Desk, out: &mut dyn Write) -> Result<(), Stop> {
     loop {
+        // One that stopped a run is done with.
+        interrupt::clear();
         write!(out, "{PROMPT}")?;
         out.flush()?;
         let done = match next_line()? {

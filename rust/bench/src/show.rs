@@ -2,8 +2,8 @@
 
 use crate::desk::{Desk, End, Stretch};
 use crate::exercise::Exercise;
-use crate::words::{counted, instruction, word};
-use crank::{meaning, Call, Direction, Machine, BR, NODE_FIELDS, NODE_WORDS, PC, REGISTERS};
+use crate::words::{counted, instruction, way, word};
+use crank::{meaning, Machine, BR, NODE_FIELDS, NODE_WORDS, PC, REGISTERS};
 use std::collections::BTreeMap;
 use std::io::{self, Write};
 use std::ops::RangeInclusive;
@@ -156,10 +156,7 @@ pub fn stretch(
     before: &Machine,
     desk: &Desk,
 ) -> io::Result<()> {
-    let (call, way) = match stretch.direction {
-        Direction::Forward => (Call::Forward, "forward"),
-        Direction::Back => (Call::Back, "back"),
-    };
+    let (way, call) = way(stretch.direction);
     let turns = counted(stretch.turns, "turn");
     match stretch.end {
         End::Complete => writeln!(out, "{turns} {way}")?,

@@ -35,8 +35,12 @@ pub enum Line {
 pub fn read_line(input: &mut impl BufRead) -> io::Result<Line> {
     let mut line = Vec::new();
     loop {
-        // read_until would read on after Ctrl-C.
-        let found = match input.fill_buf() {
+        // A terminal gives a line at a time, so that none waits in the buffer here.
+        let waited = match interrupt::installed() {
+            true => interrupt::wait_for_input(),
+            false => Ok(()),
+        };
+        let found = match waited.and_then(|()| input.fill_buf()) {
             Err(e) if e.kind() == io::ErrorKind::Interrupted => return Ok(Line::Interrupted),
             found => found?,
         };

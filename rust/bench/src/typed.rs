@@ -11,7 +11,8 @@ const REPEATED: usize = 40;
 ///
 /// A line that says what is wrong with it.
 pub fn number(text: &str, most: u64) -> Result<u64, String> {
-    let (digits, radix) = match text.strip_prefix("0x") {
+    let hexadecimal = text.strip_prefix("0x").or(text.strip_prefix("0X"));
+    let (digits, radix) = match hexadecimal {
         Some(digits) => (digits, 16),
         None => (text, 10),
     };

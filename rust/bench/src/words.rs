@@ -1,5 +1,6 @@
 //! Words and numbers as they are printed.
 
+use crank::{Call, Direction};
 use crank_assembler::instruction_text;
 
 /// A word in decimal; a large one in hexadecimal too, and signed where it may be meant so.
@@ -19,6 +20,14 @@ pub fn code_word(value: u32) -> String {
 /// The instruction that a word is.
 pub fn instruction(value: u32) -> String {
     instruction_text(value).unwrap_or_else(|| "no instruction".to_string())
+}
+
+/// A direction in words, and the call that turns so.
+pub fn way(direction: Direction) -> (&'static str, Call) {
+    match direction {
+        Direction::Forward => ("forward", Call::Forward),
+        Direction::Back => ("back", Call::Back),
+    }
 }
 
 /// A number with its noun: `1 turn`, `2 turns`.

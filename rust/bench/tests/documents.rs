@@ -34,12 +34,19 @@ const DOCUMENTS: [&str; 6] = [
     "docs/CALLS.md",
     "examples/README.md",
 ];
+/// The commands in this one are run by `tests/c/check.sh`, where the header is.
+const RUN_IN_C: &str = "docs/CALLS.md";
 /// So many of these must have some, like every transcript.
 const MUST: usize = 2;
 
-/// The built programs come first.
+/// The built programs come first, and all must be there.
 fn path() -> OsString {
-    let mut folders = vec![Path::new(BENCH).parent().expect("its folder").to_path_buf()];
+    let built = Path::new(BENCH).parent().expect("its folder");
+    for program in ["bench", "assemble", "disassemble", "crank"] {
+        let found = built.join(program).is_file();
+        assert!(found, "{program} is not built: run cargo build --release");
+    }
+    let mut folders = vec![built.to_path_buf()];
     folders.extend(env::split_paths(&env::var_os("PATH").unwrap_or_default()));
     env::join_paths(folders).expect("a path")
 }
@@ -121,48 +128,63 @@ fn run_block(block: &[&str], folder: &Path) -> (String, usize) {
     (text, count)
 }
 
-/// The document with the output that came, and its blocks and commands.
-fn run_document(text: &str, folder: &Path) -> (String, usize, usize) {
-    let (mut new, mut blocks, mut commands) = (String::new(), 0, 0);
+/// What came of a document.
+#[derive(Default)]
+struct Ran {
+    /// With the output that came.
+    text: String,
+    blocks: usize,
+    commands: usize,
+    /// Commands in blocks of another kind.
+    not_run: usize,
+}
+
+fn run_document(text: &str, folder: &Path) -> Ran {
+    let mut ran = Ran::default();
     let mut lines = text.lines();
     while let Some(line) = lines.next() {
-        new += &format!("{line}\n");
-        if line != CONSOLE {
+        ran.text += &format!("{line}\n");
+        if !line.starts_with(FENCE) {
             continue;
         }
         let block: Vec<&str> = lines.by_ref().take_while(|line| *line != FENCE).collect();
-        let (shown, count) = run_block(&block, folder);
-        assert!(count > 0, "a block without a command: {block:?}");
-        new += &format!("{shown}{FENCE}\n");
-        blocks += 1;
-        commands += count;
+        if line == CONSOLE {
+            let (shown, count) = run_block(&block, folder);
+            assert!(count > 0, "a block without a command: {block:?}");
+            ran.text += &shown;
+            ran.blocks += 1;
+            ran.commands += count;
+        } else {
+            ran.not_run += block.iter().filter(|line| line.starts_with("$ ")).count();
+            ran.text
+                .extend(block.iter().map(|line| format!("{line}\n")));
+        }
+        ran.text += &format!("{FENCE}\n");
     }
-    (new, blocks, commands)
+    ran
 }
 
-/// Runs a document; gives its blocks and commands, and what differs.
-fn check(name: &str, number: usize) -> (usize, usize, String) {
+/// Runs a document, and says what differs.
+fn check(name: &str, number: usize) -> (Ran, String) {
     let document = top().join(name);
     let text = fs::read_to_string(&document).unwrap_or_else(|e| panic!("{name}: {e}"));
     let folder = scratch(&format!("document{number}"));
-    let (new, blocks, commands) = run_document(&text, &folder);
-    println!("{name}: {blocks} blocks, {commands} commands");
-    if new == text {
-        return (blocks, commands, String::new());
+    let ran = run_document(&text, &folder);
+    let _ = fs::remove_dir_all(folder);
+    println!("{name}: {} blocks, {} commands", ran.blocks, ran.commands);
+    if ran.text == text {
+        return (ran, String::new());
     }
     if env::var_os("TRANSCRIPTS").is_some_and(|value| value == "write") {
-        fs::write(document, &new).expect("the document");
+        fs::write(document, &ran.text).expect("the document");
     }
     let differs = |(place, (old, new)): (usize, (&str, &str))| {
         (old != new).then(|| format!("{name}:{}\n  has  {old}\n  came {new}\n", place + 1))
     };
-    let mut lines = text.lines().zip(new.lines()).enumerate();
+    let mut lines = text.lines().zip(ran.text.lines()).enumerate();
     let first = lines.find_map(differs);
-    (
-        blocks,
-        commands,
-        first.unwrap_or_else(|| format!("{name}: ends otherwise\n")),
-    )
+    let fault = first.unwrap_or_else(|| format!("{name}: ends otherwise\n"));
+    (ran, fault)
 }
 
 fn transcripts() -> Vec<String> {
@@ -183,11 +205,16 @@ fn documents_show_what_comes() {
     let all: Vec<String> = documents.chain(transcripts()).collect();
     let (mut blocks, mut commands, mut faults) = (0, 0, String::new());
     for (number, name) in all.iter().enumerate() {
-        let (some, more, fault) = check(name, number);
+        let (ran, fault) = check(name, number);
         let must = number < MUST || number >= DOCUMENTS.len();
-        assert!(some > 0 || !must, "{name}: no block");
-        blocks += some;
-        commands += more;
+        assert!(ran.blocks > 0 || !must, "{name}: no block");
+        assert!(
+            ran.not_run == 0 || name == RUN_IN_C,
+            "{name}: {} commands that are not run",
+            ran.not_run
+        );
+        blocks += ran.blocks;
+        commands += ran.commands;
         faults += &fault;
     }
     println!(

@@ -124,7 +124,8 @@ fn ctrl_c_ends_a_script() {
     let folder = scratch("script");
     fs::write(folder.join("endless.qasm"), ENDLESS).expect("a source");
     let mut terminal = bench(&folder, &["endless.qasm", "-c", "run; save never.img"]);
-    terminal.wait(|new| new.ends_with(PROGRESS));
+    // Here it would not stop the run alone, and does not say so.
+    terminal.wait(|new| new.ends_with(" turns"));
     terminal.press(CTRL_C);
     let (screen, status) = terminal.end();
     assert_eq!(status.signal(), Some(SIGINT), "{screen}");

@@ -62,7 +62,12 @@ pub const BR: usize = 1;
 /// The most bytes of a file that can be loaded, preface and image.
 pub const MAX_FILE: usize = 65_536;
 /// The bytes that are enough for any image, without a preface.
-pub const MAX_IMAGE: usize = 4 * MAX_WORDS + 4 * NODE_WORDS * MAX_NODES + 92;
+pub const MAX_IMAGE: usize = image_length(MAX_WORDS, MAX_NODES);
+
+/// The bytes of an image with so many memory words and nodes, without a preface.
+pub const fn image_length(words: usize, nodes: usize) -> usize {
+    4 * words + 4 * NODE_WORDS * nodes + 92
+}
 
 /// The registers, the place in the qif table, and the sizes of the memory and table lent with it.
 #[repr(C)]

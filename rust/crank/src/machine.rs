@@ -1,7 +1,7 @@
 //! A record together with the memory and the table that it is turned with.
 
 use crate::calls::{self, Batch, Checked};
-use crate::{Record, MAX_IMAGE, MAX_NODES, MAX_WORDS, NODE_WORDS};
+use crate::{image_length, Record, MAX_IMAGE, MAX_NODES, MAX_WORDS, NODE_WORDS};
 
 /// The direction of a turn.
 #[derive(Clone, Copy, Debug, PartialEq, Eq)]
@@ -135,7 +135,7 @@ impl Machine {
         if refusal != 0 {
             return Err(refusal);
         }
-        image.truncate(4 * self.record.m as usize + 36 * self.record.n as usize + 92);
+        image.truncate(image_length(self.record.m as usize, self.record.n as usize));
         Ok(image)
     }
 

@@ -1,6 +1,7 @@
 //! What the command line asks for.
 
 use super::counts::{count, Net};
+use crank_assembler::files;
 use std::ffi::OsString;
 use std::path::Path;
 
@@ -34,7 +35,10 @@ pub fn read(arguments: &[OsString]) -> Result<Asked<'_>, String> {
             Some("--list") => set(&mut list, "--list LIST", given.next())?,
             Some("--") => rest.extend(given.by_ref()),
             _ if argument.as_encoded_bytes().starts_with(b"-") => {
-                return Err(advised(&format!("no option {}", argument.display())));
+                return Err(advised(&format!(
+                    "no option {}",
+                    files::shown(argument.as_ref())
+                )));
             }
             _ => rest.push(argument),
         }
@@ -43,7 +47,7 @@ pub fn read(arguments: &[OsString]) -> Result<Asked<'_>, String> {
         (Some(list), []) => Ok(Asked::List { list, from }),
         (Some(_), [first, ..]) => Err(advised(&format!(
             "--list LIST has its hand-ins in LIST, not {}",
-            first.display()
+            files::shown(first.as_ref())
         ))),
         (None, [hand_in, forward, back]) => Ok(Asked::One {
             hand_in: Path::new(*hand_in),

@@ -2,10 +2,15 @@
 
 use std::collections::BTreeMap;
 use std::sync::atomic::{AtomicUsize, Ordering};
-use std::sync::mpsc::{channel, Sender};
+use std::sync::mpsc::{channel, RecvTimeoutError, Sender};
 use std::thread;
+use std::time::Duration;
 
-/// Works on every item over all cores, and hands each result on as soon as all before it are.
+/// The longest time in which nothing is handed on.
+const PAUSE: Duration = Duration::from_millis(100);
+
+/// Works on every item over all cores, and hands each result on as soon as all before it are; none
+/// after a pause without one.
 ///
 /// # Errors
 ///
@@ -13,7 +18,7 @@ use std::thread;
 pub fn in_order<I: Sync, R: Send>(
     items: &[I],
     work: impl Fn(&I) -> R + Sync,
-    mut take: impl FnMut(R) -> Result<(), String>,
+    mut take: impl FnMut(Option<R>) -> Result<(), String>,
 ) -> Result<(), String> {
     let next = AtomicUsize::new(0);
     let (sender, results) = channel();
@@ -31,14 +36,17 @@ pub fn in_order<I: Sync, R: Send>(
         drop(sender);
         let (mut early, mut due) = (BTreeMap::new(), 0);
         // Returned from, this drops the receiver, and the workers stop.
-        for (index, result) in results {
-            early.insert(index, result);
+        loop {
+            match results.recv_timeout(PAUSE) {
+                Ok((index, result)) => drop(early.insert(index, result)),
+                Err(RecvTimeoutError::Timeout) => take(None)?,
+                Err(RecvTimeoutError::Disconnected) => return Ok(()),
+            }
             while let Some(result) = early.remove(&due) {
-                take(result)?;
+                take(Some(result))?;
                 due += 1;
             }
         }
-        Ok(())
     })
 }
 

@@ -42,7 +42,7 @@ pub fn read(list: &Path) -> Result<Vec<Entry>, String> {
         }
     }
     if entries.is_empty() {
-        return Err(format!("{}: has no hand-in", list.display()));
+        return Err(format!("{}: has no hand-in", files::shown(list)));
     }
     Ok(entries)
 }

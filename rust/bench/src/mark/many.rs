@@ -45,13 +45,15 @@ pub fn mark(
     let mut verdicts = Vec::new();
     let mut progress = Progress::new();
     let work = |entry: &Entry| mark_entry(entry, beginning);
-    cores::in_order(&entries, work, |marked| {
-        verdicts.push(marked.verdict);
-        progress.erase();
-        // Each line as soon as it is known.
-        writeln!(out, "{}", marked.line)
-            .and_then(|()| out.flush())
-            .map_err(|e| files::output_fault(&e))?;
+    cores::in_order(&entries, work, |marked: Option<Marked>| {
+        if let Some(marked) = marked {
+            verdicts.push(marked.verdict);
+            progress.erase();
+            // Each line as soon as it is known.
+            writeln!(out, "{}", marked.line)
+                .and_then(|()| out.flush())
+                .map_err(|e| files::output_fault(&e))?;
+        }
         progress.show(|| format!("{} of {}", verdicts.len(), entries.len()));
         Ok(())
     })?;
@@ -63,7 +65,10 @@ pub fn mark(
 
 fn mark_entry(entry: &Entry, beginning: Option<&Machine>) -> Marked {
     let (name, judged) = match entry {
-        Ok(hand_in) => (hand_in.name.clone(), judge(hand_in, beginning)),
+        Ok(hand_in) => (
+            files::shown(hand_in.name.as_ref()),
+            judge(hand_in, beginning),
+        ),
         Err(no) => (format!("line {}", no.line), Err(no.fault.clone())),
     };
     let (verdict, said) = match judged {
@@ -91,7 +96,7 @@ fn judge(hand_in: &HandIn, beginning: Option<&Machine>) -> Result<(Judged, Stand
         Ok(exercise) => exercise.machine,
         Err(fault) => {
             // The line has the name as it is in the list, in place of the path.
-            let path = format!("{}: ", hand_in.path.display());
+            let path = format!("{}: ", files::shown(&hand_in.path));
             return Err(fault.strip_prefix(&path).unwrap_or(&fault).to_string());
         }
     };

@@ -2,8 +2,8 @@
 
 use super::differences::{not_zero, Difference, Place};
 use super::judge::{Ending, Judged, MAX_ON};
-use crate::words::{code_word, counted, word};
-use crank::{meaning, Call, Direction};
+use crate::words::{code_word, counted, way, word};
+use crank::{meaning, Call};
 use std::io::{self, Write};
 
 /// The columns that a line of several items may take.
@@ -36,10 +36,7 @@ pub fn single(out: &mut impl Write, judged: &Judged, ending: &Ending) -> io::Res
 /// What became of the turns.
 pub fn turns(judged: &Judged) -> String {
     let net = judged.net;
-    let (way, call) = match net.direction {
-        Direction::Forward => ("forward", Call::Forward),
-        Direction::Back => ("back", Call::Back),
-    };
+    let (way, call) = way(net.direction);
     match judged.made.refusal {
         0 if net.turns == 0 => "no turn to make: as many forward as back".to_string(),
         0 => format!("{} {way}: all accepted", counted(net.turns, "turn")),

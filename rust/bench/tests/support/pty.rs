@@ -2,7 +2,7 @@
 
 use std::ffi::{c_char, c_int, c_ulong, CStr};
 use std::fs::{File, OpenOptions};
-use std::io::{Read, Write};
+use std::io::{self, Read, Write};
 use std::os::fd::{AsRawFd, FromRawFd};
 use std::os::unix::fs::OpenOptionsExt;
 use std::os::unix::process::CommandExt;
@@ -17,6 +17,8 @@ const O_NOCTTY: c_int = 0o400;
 /// So that no other program started meanwhile holds it open.
 const O_CLOEXEC: c_int = 0o2_000_000;
 const TIOCSCTTY: c_ulong = 0x540E;
+const SIGINT: c_int = 2;
+const SIG_DFL: usize = 0;
 /// What a test waits for comes much sooner.
 const PATIENCE: Duration = Duration::from_secs(60);
 
@@ -29,7 +31,8 @@ extern "C" {
     fn unlockpt(master: c_int) -> c_int;
     fn ptsname(master: c_int) -> *const c_char;
     fn setsid() -> c_int;
-    fn ioctl(file: c_int, request: c_ulong, argument: c_int) -> c_int;
+    fn ioctl(file: c_int, request: c_ulong, ...) -> c_int;
+    fn signal(number: c_int, handler: usize) -> usize;
 }
 
 pub struct Terminal {
@@ -71,12 +74,15 @@ impl Terminal {
         let other = || slave.try_clone().expect("the terminal");
         let tty = slave.as_raw_fd();
         command.stdin(other()).stdout(other()).stderr(other());
-        // SAFETY: two plain calls between fork and exec.
+        // SAFETY: plain calls between fork and exec.
         unsafe {
             command.pre_exec(move || {
-                setsid();
-                ioctl(tty, TIOCSCTTY, 0);
-                Ok(())
+                // Ignored by whoever runs the tests, it would stay ignored.
+                signal(SIGINT, SIG_DFL);
+                match (setsid(), ioctl(tty, TIOCSCTTY, 0)) {
+                    (-1, _) | (_, -1) => Err(io::Error::last_os_error()),
+                    _ => Ok(()),
+                }
             });
         }
         let child = command.spawn().expect("the program");
@@ -123,8 +129,6 @@ impl Terminal {
                     return (new, false);
                 }
                 Err(mpsc::RecvTimeoutError::Timeout) => {
-                    // It may be gone already.
-                    let _ = self.child.kill();
                     panic!("nothing more came after:\n{}", self.screen);
                 }
             }
@@ -140,6 +144,14 @@ impl Terminal {
     pub fn end(mut self) -> (String, ExitStatus) {
         self.wait(|_| false);
         let status = self.child.wait().expect("its status");
-        (self.screen, status)
+        (std::mem::take(&mut self.screen), status)
+    }
+}
+
+impl Drop for Terminal {
+    /// Where a test failed, the program may still run.
+    fn drop(&mut self) {
+        let _ = self.child.kill();
+        let _ = self.child.wait();
     }
 }

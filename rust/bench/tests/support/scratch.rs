@@ -10,6 +10,7 @@ pub fn top() -> PathBuf {
 
 /// A new folder with a copy of the examples in it.
 pub fn scratch(name: &str) -> PathBuf {
+    let name = format!("{name}-{}", std::process::id());
     let folder = Path::new(env!("CARGO_TARGET_TMPDIR")).join(name);
     // It is there from an earlier run, or not.
     let _ = fs::remove_dir_all(&folder);
