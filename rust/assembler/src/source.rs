@@ -185,6 +185,9 @@ impl<'a> Source<'a> {
         if name.is_empty() {
             return Err(".node takes a name, then fields such as nx=2".into());
         }
+        if fields.is_empty() && rest.ends_with(',') {
+            return Err("an operand is missing beside a comma".into());
+        }
         if self.nodes.len() == MAX_NODES {
             return Err(format!("more than {MAX_NODES} nodes"));
         }

@@ -205,6 +205,7 @@ fn directives() {
 /// Nodes and their fields.
 const NODES: &[(&str, &str)] = &[
     (".node", ".node takes a name, then fields such as nx=2"),
+    (".node a,", "an operand is missing beside a comma"),
     (".node 2 w=1", "this is node 1, but it is written as 2"),
     (".node a up=1", "a node has no field \"up\""),
     (".node a nx=b", "there is no node \"b\""),
