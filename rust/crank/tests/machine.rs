@@ -1,0 +1,337 @@
+//! `Machine` held against single turns by value, the lesson bench against the calls by value, and
+//! the refusals in words.
+
+use crank::calls::{self, Batch, Bench, Cranked, Turned};
+use crank::{meaning, Call, Direction, Machine, Made, Record, MAX_FILE};
+use std::fs;
+use std::path::Path;
+use std::sync::mpsc;
+use std::thread;
+use std::time::Duration;
+use Direction::{Back, Forward};
+
+/// A call that should end at once is waited for so long.
+const PATIENCE: Duration = Duration::from_secs(60);
+/// Of a number that no call gives.
+const UNKNOWN: &str = "unknown";
+/// The place of words in the trailer, counted from the end of the file.
+const BACK_WORD: usize = 92;
+const M_WORD: usize = 88;
+
+/// start; xori r1, 5; finish; a data word.
+fn short() -> Machine {
+    let code = vec![0x1A00_0000, 0x0240_0005, 0x1B00_0000, 7];
+    Machine::new(3, code, Vec::new())
+}
+
+/// Every example by its name, as a file and as a machine.
+fn examples() -> Vec<(String, Vec<u8>, Machine)> {
+    let folder = Path::new(env!("CARGO_MANIFEST_DIR")).join("../../examples");
+    let mut found = Vec::new();
+    for entry in fs::read_dir(folder).expect("the examples") {
+        let path = entry.expect("an entry").path();
+        if path.extension().is_some_and(|extension| extension == "img") {
+            let file = fs::read(&path).expect("it can be read");
+            let machine = Machine::load(&file).expect("it is an image");
+            let name = path.file_name().expect("its name").to_string_lossy();
+            found.push((name.into_owned(), file, machine));
+        }
+    }
+    assert!(!found.is_empty(), "no examples");
+    found
+}
+
+/// Every state of a run, the first one too, and the refusal that ends it; by single turns by value.
+fn run(machine: &Machine, direction: Direction) -> (Vec<Machine>, u32) {
+    let mut states = vec![machine.clone()];
+    loop {
+        let mut next = states.last().expect("a state").clone();
+        let call = match direction {
+            Forward => calls::forward,
+            Back => calls::back,
+        };
+        let turned = call(next.record, &mut next.mem, &next.table);
+        if turned.refusal != 0 {
+            return (states, turned.refusal);
+        }
+        next.record = turned.state;
+        states.push(next);
+        assert!(states.len() < 100_000, "it does not end");
+    }
+}
+
+#[test]
+fn refused_loads() {
+    let image = short().save().expect("an image");
+    let word = |from_end: usize, change: u32| {
+        let mut file = image.clone();
+        let at = file.len() - from_end;
+        let old = u32::from_le_bytes(file[at..at + 4].try_into().expect("four bytes"));
+        let new = old.wrapping_add(change).to_le_bytes();
+        file[at..at + 4].copy_from_slice(&new);
+        file
+    };
+    let long = |length: usize| [vec![0; length - image.len()], image.clone()].concat();
+    let files = [
+        (Vec::new(), 1),
+        (image[image.len() - 91..].to_vec(), 1),
+        (long(MAX_FILE + 1), 1),
+        (word(4, 1), 2),
+        (word(M_WORD, 8189), 3),
+        (word(M_WORD, 0_u32.wrapping_sub(4)), 3),
+        (word(M_WORD, 1), 4),
+        (word(BACK_WORD, 1), 4),
+        (image[1..].to_vec(), 5),
+    ];
+    for (file, refusal) in &files {
+        assert_eq!(Machine::load(file), Err(*refusal), "{} bytes", file.len());
+        assert_eq!(calls::preface(file), b"", "{} bytes", file.len());
+    }
+    assert_eq!(Machine::load(&long(MAX_FILE)), Ok(short()));
+    assert_eq!(
+        calls::preface(&long(MAX_FILE)).len(),
+        MAX_FILE - image.len()
+    );
+    println!("machine: {} loads refused", files.len());
+}
+
+#[test]
+fn saved_and_loaded() {
+    let mut states = 0;
+    for (name, file, machine) in examples() {
+        assert_eq!(machine.save().as_ref(), Ok(&file), "{name}");
+        for state in run(&machine, Forward).0 {
+            let image = state.save().expect("its sizes are in order");
+            assert_eq!(Machine::load(&image).as_ref(), Ok(&state), "{name}");
+            let preface = b"by hand".as_slice();
+            let behind = [preface, &image].concat();
+            assert_eq!(Machine::load(&behind), Ok(state), "{name}");
+            assert_eq!(calls::preface(&behind), preface, "{name}");
+            states += 1;
+        }
+    }
+    println!("machine: {states} states saved and loaded");
+    assert!(states > 100);
+}
+
+/// Sizes that do not fit: every call answers, and nothing changes.
+#[test]
+fn sizes_that_do_not_fit() {
+    let spoils: [fn(&mut Machine); 4] = [
+        |m| m.record.k = 0,
+        |m| m.record.m += 1,
+        |m| m.record.n = 1,
+        |m| m.mem.clear(),
+    ];
+    for spoil in spoils {
+        let mut machine = short();
+        spoil(&mut machine);
+        let before = machine.clone();
+        assert_eq!((machine.save(), machine.check().refusal), (Err(10), 10));
+        for direction in [Forward, Back] {
+            assert_eq!(machine.refusal(direction), 10);
+            assert_eq!(machine.turn(direction), 10);
+            let refused = Made {
+                turns: 0,
+                refusal: 10,
+            };
+            assert_eq!(machine.turns(direction, 5), refused);
+        }
+        assert!(!machine.at_start() && !machine.at_finish());
+        assert_eq!(machine, before);
+    }
+    println!("machine: {} that do not fit", spoils.len());
+}
+
+/// Start and finish are the ends of a run and nothing else, and looking changes nothing.
+#[test]
+fn ends_of_a_run() {
+    let (mut runs, mut states) = (0, 0);
+    for (name, _, machine) in examples() {
+        let (run, refusal) = run(&machine, Forward);
+        assert_eq!(refusal, 12, "{name}");
+        let last = run.len() - 1;
+        for (turns, state) in run.iter().enumerate() {
+            let before = state.clone();
+            assert_eq!(state.at_start(), turns == 0, "{name} after {turns}");
+            assert_eq!(state.at_finish(), turns == last, "{name} after {turns}");
+            let forward = if turns == last { 12 } else { 0 };
+            let back = if turns == 0 { 12 } else { 0 };
+            assert_eq!(state.refusal(Forward), forward, "{name} after {turns}");
+            assert_eq!(state.refusal(Back), back, "{name} after {turns}");
+            assert_eq!(*state, before, "{name} after {turns}");
+            states += 1;
+        }
+        runs += 1;
+    }
+    println!("machine: the ends of {runs} runs, {states} states");
+    assert!(states > 100);
+}
+
+#[test]
+fn checked() {
+    let (mut words, mut links) = (0, 0);
+    for (name, _, machine) in examples() {
+        let found = |machine: &Machine| (machine.check().refusal, machine.check().place);
+        assert_eq!(found(&machine), (0, 0), "{name}");
+        for address in 0..machine.record.k {
+            let mut spoilt = machine.clone();
+            spoilt.mem[address as usize] = u32::MAX;
+            assert_eq!(found(&spoilt), (7, address), "{name}");
+            words += 1;
+        }
+        if machine.record.n > 0 {
+            let mut spoilt = machine.clone();
+            // The next of the last node, which has none.
+            let at = spoilt.table.len() - 3;
+            spoilt.table[at] = machine.record.n;
+            assert_eq!(found(&spoilt), (8, machine.record.n), "{name}");
+            links += 1;
+        }
+    }
+    println!("machine: {words} code words and {links} links that are no good");
+    assert!(words > 50 && links > 1);
+}
+
+/// Any number of turns, none and more than there are, from either end.
+#[test]
+fn turns_as_single_ones() {
+    let mut batches = 0;
+    for (name, _, machine) in examples() {
+        let end = run(&machine, Forward).0.pop().expect("a state");
+        for (direction, from) in [(Forward, machine), (Back, end)] {
+            let (states, refusal) = run(&from, direction);
+            let most = states.len() - 1;
+            for count in 0..most + 4 {
+                let mut machine = from.clone();
+                let made = machine.turns(direction, count as u64);
+                let turns = count.min(most);
+                let refusal = if count > most { refusal } else { 0 };
+                let want = Made {
+                    turns: turns as u64,
+                    refusal,
+                };
+                assert_eq!(made, want, "{name}: {count} {direction:?}");
+                assert_eq!(machine, states[turns], "{name}: {count} {direction:?}");
+                batches += 1;
+            }
+        }
+    }
+    println!("machine: {batches} counts of turns");
+    assert!(batches > 200);
+}
+
+/// What a call gives, which might else go on for ever.
+fn soon<T: Send + 'static>(call: impl FnOnce() -> T + Send + 'static) -> T {
+    let (sender, result) = mpsc::channel();
+    thread::spawn(move || sender.send(call()));
+    result.recv_timeout(PATIENCE).expect("it ends")
+}
+
+/// A count that 32 bits can't hold is no smaller one.
+#[test]
+fn counts_over_32_bits() {
+    let counts = [
+        u64::from(u32::MAX),
+        1 << 32,
+        (1 << 32) + 1,
+        1 << 33,
+        1 << 63,
+        u64::MAX,
+    ];
+    let end = run(&short(), Forward).0.pop().expect("a state");
+    for count in counts {
+        for (direction, from) in [(Forward, short()), (Back, end.clone())] {
+            let (states, refusal) = run(&from, direction);
+            let mut machine = from;
+            let (made, machine) = soon(move || (machine.turns(direction, count), machine));
+            assert_eq!(made, Made { turns: 2, refusal }, "{count} {direction:?}");
+            assert_eq!((Some(&machine), refusal), (states.last(), 12), "{count}");
+        }
+    }
+    println!("machine: {} counts up to 64 bits", counts.len());
+}
+
+#[test]
+fn directions() {
+    assert_eq!((Forward.reverse(), Back.reverse()), (Back, Forward));
+}
+
+#[test]
+fn meanings() {
+    let calls = [
+        Call::Forward,
+        Call::Back,
+        Call::Load,
+        Call::Save,
+        Call::Check,
+    ];
+    for call in calls {
+        for refusal in 0..=18 {
+            let said = meaning(refusal, call);
+            assert!(said != UNKNOWN && !said.is_empty(), "{refusal} of {call:?}");
+        }
+        for refusal in [19, u32::MAX] {
+            assert_eq!(meaning(refusal, call), UNKNOWN, "{refusal} of {call:?}");
+        }
+    }
+    // Where a number means something else back, it is said.
+    for refusal in [11, 12, 13, 18] {
+        let [forward, back] = [Call::Forward, Call::Back].map(|call| meaning(refusal, call));
+        assert_ne!(forward, back, "{refusal}");
+    }
+    println!("machine: 0 to 18 in words, for {} calls", calls.len());
+}
+
+type OnBench = fn(&mut Bench, &mut [u32], &[u32]) -> u32;
+type ByValue = fn(Record, &mut [u32], &[u32]) -> Turned;
+type BatchOnBench = fn(&mut Bench, u32, &mut [u32], &[u32]) -> Cranked;
+type BatchByValue = fn(Record, u32, &mut [u32], &[u32]) -> Batch;
+
+fn single_on_bench(machine: &Machine, on_bench: OnBench, by_value: ByValue) {
+    let (table, mut bench) = (
+        &machine.table,
+        Bench {
+            state: machine.record,
+        },
+    );
+    let [mut mem, mut other] = [machine.mem.clone(), machine.mem.clone()];
+    let refusal = on_bench(&mut bench, &mut mem, table);
+    let turned = by_value(machine.record, &mut other, table);
+    assert_eq!((refusal, bench.state), (turned.refusal, turned.state));
+    assert_eq!(mem, other);
+}
+
+fn batch_on_bench(machine: &Machine, n: u32, on_bench: BatchOnBench, by_value: BatchByValue) {
+    let (table, mut bench) = (
+        &machine.table,
+        Bench {
+            state: machine.record,
+        },
+    );
+    let [mut mem, mut other] = [machine.mem.clone(), machine.mem.clone()];
+    let cranked = on_bench(&mut bench, n, &mut mem, table);
+    let batch = by_value(machine.record, n, &mut other, table);
+    let found = (cranked.turns, cranked.refusal, bench.state);
+    assert_eq!(found, (batch.turns, batch.refusal, batch.state));
+    assert_eq!(mem, other);
+}
+
+/// Each call of the lesson bench, in every state of the examples, against the call by value.
+#[test]
+fn lesson_bench() {
+    let mut made = 0;
+    for (_, _, machine) in examples() {
+        for state in run(&machine, Forward).0 {
+            single_on_bench(&state, Bench::forward, calls::forward);
+            single_on_bench(&state, Bench::back, calls::back);
+            for n in [0, 1, 3, u32::MAX] {
+                batch_on_bench(&state, n, Bench::forward_batch, calls::forward_batch);
+                batch_on_bench(&state, n, Bench::back_batch, calls::back_batch);
+            }
+            made += 10;
+        }
+    }
+    println!("machine: {made} calls of the lesson bench");
+    assert!(made > 1_000);
+}
