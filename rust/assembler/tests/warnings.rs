@@ -30,6 +30,22 @@ fn addresses() {
     assert_eq!(ends_by(source), 15);
 }
 
+/// Data words are exactly K to M-1: here 5 to 7.
+#[test]
+fn bounds_of_the_data() {
+    let source = |address: u32| format!("start\nld r1, {address}\n.word 0, 0, 0\n.data\n.space 3");
+    let (k, m) = (5, 8);
+    let mut outside = Vec::new();
+    for address in 0..m + 3 {
+        let warned = !warnings(&source(address)).is_empty();
+        let refused = ends_by(&source(address)) == 15;
+        assert_eq!(warned, refused, "address {address}");
+        outside.extend(warned.then_some(address));
+    }
+    println!("addresses outside {k} to {}: {outside:?}", m - 1);
+    assert_eq!(outside, [0, 1, 2, 3, k - 1, m, m + 1, m + 2]);
+}
+
 /// The lowest node alone is told, and a word that is no instruction does not hide it.
 #[test]
 fn unpaired_links() {

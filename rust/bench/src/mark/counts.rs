@@ -2,6 +2,7 @@
 
 use crate::typed;
 use crank::Direction;
+use crank_assembler::files;
 
 /// A count of turns as it is written: decimal, or hexadecimal behind 0x.
 ///
@@ -9,8 +10,10 @@ use crank::Direction;
 ///
 /// One line, where it is no number or too large.
 pub fn count(text: &str) -> Result<u64, String> {
-    typed::number(text, u64::MAX)
-        .map_err(|_| format!("count {text} is no number from 0 to {}", u64::MAX))
+    typed::number(text, u64::MAX).map_err(|_| {
+        let text = files::shown(text.as_ref());
+        format!("count {text} is no number from 0 to {}", u64::MAX)
+    })
 }
 
 /// The turns that undo a hand-in's: as many as one count exceeds the other, the other way.

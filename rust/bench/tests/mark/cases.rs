@@ -230,3 +230,46 @@ does not fit: 20 differences
     );
     assert_eq!(nodes[7], "  node 5 pr expected none, found 8");
 }
+
+/// Counts that 32 bits can't hold.
+#[test]
+fn counts_over_32_bits() {
+    let hand_in = after("loop", 7);
+    let cases = [
+        (
+            1 << 32,
+            0,
+            "turn 8 of 4294967296 back",
+            12,
+            "pc is at start",
+        ),
+        (
+            0,
+            1 << 32,
+            "turn 29 of 4294967296 forward",
+            12,
+            "pc is at finish",
+        ),
+        (
+            1 << 40,
+            1,
+            "turn 8 of 1099511627775 back",
+            12,
+            "pc is at start",
+        ),
+        (
+            u64::MAX,
+            0,
+            "turn 8 of 18446744073709551615 back",
+            12,
+            "pc is at start",
+        ),
+    ];
+    for (forward, back, turn, refusal, why) in cases {
+        let ran = mark(&hand_in, forward, back, Some("loop.img"));
+        let line = format!("{turn} was refused by {refusal}: {why}");
+        let found = (ran.status, ran.out.lines().next());
+        assert_eq!(found, (1, Some(&line[..])), "{forward} {back}");
+    }
+    println!("cases: {} counts over 32 bits", cases.len());
+}

@@ -117,6 +117,35 @@ fn names() {
     }
 }
 
+/// Names and counts with signs that would move about on a terminal: one line, none of them raw.
+#[test]
+fn signs_of_a_terminal() {
+    let folder = folder("signs");
+    let missing = "No such file or directory";
+    let cases: [(&[&str], String); 5] = [
+        (&["a\nb.img", "0", "0"], format!("a\\nb.img: {missing}")),
+        (&["--list", "a\nb"], format!("a\\nb: {missing}")),
+        (
+            &["a.img", "0", "0", "--from", "a\nb"],
+            format!("a\\nb: {missing}"),
+        ),
+        (&["a.img", "1\n2", "0"], not_a_count("1\\n2")),
+        (&["-a\nb"], format!("no option -a\\nb{SEE}")),
+    ];
+    for (arguments, line) in &cases {
+        assert_eq!(folder.mark(arguments), Ran::fault(line), "{arguments:?}");
+    }
+    folder.write("signs", "\u{1b}[31m.img 0 0\na.img \u{1b}[31m 0\n");
+    let lines = format!(
+        "\\u{{1b}}[31m.img: cannot be marked: {missing}\nline 2: cannot be marked: {}\n",
+        not_a_count("\\u{1b}[31m")
+    );
+    let ran = folder.mark(&["--list", "signs"]);
+    let summary = "2 hand-ins: 0 come back to start, 0 do not, 2 cannot be marked\n";
+    assert_eq!(ran, Ran::quiet(1, lines + summary));
+    println!("faults: {} with signs of a terminal", cases.len() + 2);
+}
+
 #[test]
 fn help() {
     let ran = Folder::new("help").mark(&["a", "b", "--help"]);
