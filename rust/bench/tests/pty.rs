@@ -1,15 +1,17 @@
-//! bench at a terminal: prompt and greeting, progress, Ctrl-C in a run and at the prompt, Ctrl-D.
+//! bench at a terminal: prompt and greeting, progress, Ctrl-C in a run and at the prompt, Ctrl-D;
+//! and the progress of bench mark.
 
 #[path = "support/pty.rs"]
 mod pty;
 #[path = "support/scratch.rs"]
 mod scratch;
 
+use crank::Machine;
 use pty::{Terminal, CTRL_D};
 use scratch::scratch;
 use std::fs;
 use std::os::unix::process::ExitStatusExt;
-use std::path::Path;
+use std::path::{Path, PathBuf};
 use std::process::Command;
 
 const CTRL_C: &str = "\x03";
@@ -158,4 +160,70 @@ fn ctrl_c_at_the_prompt_gives_a_new_one() {
     terminal.press(CTRL_D);
     let (screen, status) = terminal.end();
     assert!(screen.ends_with("> \n") && status.success(), "{screen}");
+}
+
+/// Turns that take over a second.
+const LONG: u64 = 300_000_000;
+
+/// A folder with a hand-in, two jumps that are each the other's landing, and a list of two of it.
+fn long_hand_ins(name: &str) -> PathBuf {
+    let folder = scratch(name);
+    let code = vec![0x1A00_0000, 0x0340_0001, 0x0500_FFFF, 0x0500_FFFF];
+    let mut machine = Machine::new(4, code, Vec::new());
+    machine.record.regs[0] = 3;
+    fs::write(folder.join("long.img"), machine.save().expect("an image")).expect("a file");
+    let list = format!("long.img {LONG} 0\n").repeat(2);
+    fs::write(folder.join("list"), list).expect("a list");
+    folder
+}
+
+/// What is shown while it marks, erased before anything else comes; gives all that came.
+fn marked(terminal: Terminal, shown: &str) -> String {
+    let mut terminal = terminal;
+    let (_, going) = terminal.wait(|new| new.contains(shown));
+    assert!(going, "no {shown}:\n{}", terminal.screen);
+    let (screen, status) = terminal.end();
+    assert_eq!(status.code(), Some(1), "{screen}");
+    let (before, behind) = screen.split_once("\x1b[K").expect("it is erased");
+    assert!(before.contains(shown) && !before.contains('\n'), "{screen}");
+    assert!(!behind.ends_with(shown), "{screen}");
+    screen
+}
+
+#[test]
+fn progress_of_a_list() {
+    let folder = long_hand_ins("list");
+    let terminal = bench(&folder, &["mark", "--list", "list"]);
+    let screen = marked(terminal, "0 of 2");
+    let lines = screen
+        .matches("long.img: does not come back to start")
+        .count();
+    assert_eq!(lines, 2, "{screen}");
+    println!("list: progress was shown and erased");
+}
+
+#[test]
+fn progress_of_one_hand_in() {
+    let folder = long_hand_ins("one");
+    let terminal = bench(&folder, &["mark", "long.img", &LONG.to_string(), "0"]);
+    let screen = marked(terminal, &format!(" of {LONG} turns"));
+    let report = format!("\x1b[K{LONG} turns back: all accepted\n");
+    assert!(screen.contains(&report), "{screen}");
+    println!("hand-in: progress was shown and erased");
+}
+
+#[test]
+fn no_progress_in_a_pipe() {
+    let folder = long_hand_ins("pipe");
+    let count = LONG.to_string();
+    for arguments in [&["--list", "list"][..], &["long.img", &count, "0"]] {
+        let mut bench = Command::new(env!("CARGO_BIN_EXE_bench"));
+        bench.arg("mark").args(arguments).current_dir(&folder);
+        let output = bench.output().expect("bench");
+        let [out, err] = [output.stdout, output.stderr].map(|bytes| String::from_utf8(bytes));
+        assert_eq!((output.status.code(), err), (Some(1), Ok(String::new())));
+        let out = out.expect("text");
+        assert!(!out.is_empty() && !out.contains(['\r', '\x1b']), "{out}");
+    }
+    println!("pipe: no progress of a list and of a hand-in");
 }

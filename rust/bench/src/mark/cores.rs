@@ -34,8 +34,9 @@ pub fn in_order<I: Sync, R: Send>(
         }
         // Else the results would never end.
         drop(sender);
+        // Owned here, it is dropped where this is returned from, and the workers stop.
+        let results = results;
         let (mut early, mut due) = (BTreeMap::new(), 0);
-        // Returned from, this drops the receiver, and the workers stop.
         loop {
             match results.recv_timeout(PAUSE) {
                 Ok((index, result)) => drop(early.insert(index, result)),

@@ -5,6 +5,7 @@ mod expected;
 mod faults;
 mod lists;
 mod right;
+mod running;
 mod scratch;
 mod speed;
 mod students;

@@ -31,8 +31,13 @@ impl Folder {
         command
     }
 
+    /// Runs it; one that does not end is a failure in the end.
     pub fn mark(&self, arguments: &[impl AsRef<OsStr>]) -> Ran {
-        Ran::of(self.command(arguments).output().expect("bench runs"))
+        let bench = self.command(arguments);
+        let mut limited = Command::new("timeout");
+        limited.arg("120").arg(bench.get_program());
+        limited.args(bench.get_args()).current_dir(&self.0);
+        Ran::of(limited.output().expect("bench runs"))
     }
 }
 
