@@ -163,15 +163,19 @@ impl Drawing<'_> {
             (y1 + 3 * cy1 + 3 * cy2 + y2) / 8,
         );
         let colour = COLOURS[coin];
+        let field = NODE_FIELDS[if last { LC } else { FC } + coin];
         self.svg += &format!(
-            "<path class=\"{class}\" stroke=\"{colour}\" \
+            "<g><title>{field}: {} to {}</title>\n\
+             <path class=\"{class}\" stroke=\"{colour}\" \
              d=\"M{x1} {y1}C{cx1} {cy1} {cx2} {cy2} {x2} {}\"/>\n",
+            from + 1,
+            to + 1,
             y2 - 6
         );
         self.arrow(colour, (x2, y2), "l-4 -8h8z");
         self.svg += &format!(
             "<g class=\"coin\"><circle cx=\"{0}\" cy=\"{1}\" r=\"8\" stroke=\"{colour}\"/>\
-             <text x=\"{0}\" y=\"{2}\" style=\"fill: {colour}\">{coin}</text></g>\n",
+             <text x=\"{0}\" y=\"{2}\" style=\"fill: {colour}\">{coin}</text></g></g>\n",
             middle.0,
             middle.1,
             middle.1 + 4
@@ -187,7 +191,11 @@ impl Drawing<'_> {
         let over = if x2 > x1 { 0 } else { RISE };
         let bend = if x2 > x1 { (x2 - x1) / 2 } else { RISE };
         self.svg += &format!(
-            "<path class=\"link\" stroke=\"{NEUTRAL}\" d=\"M{x1} {y1}C{} {} {} {} {} {y2}\"/>\n",
+            "<g><title>{}: {} to {}</title>\n\
+             <path class=\"link\" stroke=\"{NEUTRAL}\" d=\"M{x1} {y1}C{} {} {} {} {} {y2}\"/>\n",
+            NODE_FIELDS[NX],
+            from + 1,
+            to + 1,
             x1 + bend,
             y1 - over,
             x2 - bend,
@@ -195,6 +203,7 @@ impl Drawing<'_> {
             x2 - 6
         );
         self.arrow(NEUTRAL, (x2, y2), "l-8 -4v8z");
+        self.svg += "</g>\n";
     }
 
     fn arrow(&mut self, colour: &str, (x, y): (i64, i64), shape: &str) {

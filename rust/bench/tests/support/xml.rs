@@ -2,6 +2,7 @@
 //! attributes and text may come.
 
 pub struct Element {
+    pub name: String,
     attributes: Vec<(String, String)>,
     /// The text right behind the opening tag.
     pub text: String,
@@ -40,7 +41,11 @@ pub fn elements(text: &str) -> Vec<Element> {
         let inner = tag.strip_suffix('/');
         let (name, attributes) = opening(inner.unwrap_or(tag));
         let text = rest.split('<').next().unwrap_or_default().to_string();
-        found.push(Element { attributes, text });
+        found.push(Element {
+            name: name.to_string(),
+            attributes,
+            text,
+        });
         if inner.is_none() {
             open.push(name);
         }
