@@ -162,6 +162,8 @@ fn ctrl_c_at_the_prompt_gives_a_new_one() {
     assert!(screen.ends_with("> \n") && status.success(), "{screen}");
 }
 
+/// What removes the progress.
+const ERASED: &str = "\x1b[K";
 /// Turns that take over a second.
 const LONG: u64 = 300_000_000;
 
@@ -178,15 +180,15 @@ fn long_hand_ins(name: &str) -> PathBuf {
 }
 
 /// What is shown while it marks, erased before anything else comes; gives all that came.
-fn marked(terminal: Terminal, shown: &str) -> String {
-    let mut terminal = terminal;
+fn marked(mut terminal: Terminal, shown: &str) -> String {
     let (_, going) = terminal.wait(|new| new.contains(shown));
     assert!(going, "no {shown}:\n{}", terminal.screen);
     let (screen, status) = terminal.end();
     assert_eq!(status.code(), Some(1), "{screen}");
-    let (before, behind) = screen.split_once("\x1b[K").expect("it is erased");
+    let (before, _) = screen.split_once(ERASED).expect("it is erased");
     assert!(before.contains(shown) && !before.contains('\n'), "{screen}");
-    assert!(!behind.ends_with(shown), "{screen}");
+    let (_, last) = screen.rsplit_once(ERASED).expect("it is erased");
+    assert!(!last.contains(" of ") && last.ends_with('\n'), "{screen}");
     screen
 }
 
@@ -220,7 +222,7 @@ fn no_progress_in_a_pipe() {
         let mut bench = Command::new(env!("CARGO_BIN_EXE_bench"));
         bench.arg("mark").args(arguments).current_dir(&folder);
         let output = bench.output().expect("bench");
-        let [out, err] = [output.stdout, output.stderr].map(|bytes| String::from_utf8(bytes));
+        let [out, err] = [output.stdout, output.stderr].map(String::from_utf8);
         assert_eq!((output.status.code(), err), (Some(1), Ok(String::new())));
         let out = out.expect("text");
         assert!(!out.is_empty() && !out.contains(['\r', '\x1b']), "{out}");

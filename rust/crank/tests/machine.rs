@@ -204,7 +204,8 @@ fn turns_as_single_ones() {
             let most = states.len() - 1;
             for count in 0..most + 4 {
                 let mut machine = from.clone();
-                let made = machine.turns(direction, count as u64);
+                let asked = count as u64;
+                let (made, machine) = soon(move || (machine.turns(direction, asked), machine));
                 let turns = count.min(most);
                 let refusal = if count > most { refusal } else { 0 };
                 let want = Made {
