@@ -199,14 +199,15 @@ fn table(desk: &mut Desk, _: &[&str], out: &mut dyn Write) -> Done {
 }
 
 fn draw(desk: &mut Desk, arguments: &[&str], out: &mut dyn Write) -> Done {
-    if !arguments[0].ends_with(".svg") {
-        let name = arguments[0];
+    let path = Path::new(arguments[0]);
+    let name = files::shown(path);
+    if !name.ends_with(".svg") {
         return Err(format!("{name}: a picture's name ends in .svg").into());
     }
     let svg = picture(&desk.machine, &desk.exercise);
-    files::write(Path::new(arguments[0]), svg.as_bytes())?;
+    files::write(path, svg.as_bytes())?;
     let nodes = counted(desk.machine.record.n.into(), "node");
-    Ok(writeln!(out, "drawn in {}: {nodes}", arguments[0])?)
+    Ok(writeln!(out, "drawn in {name}: {nodes}")?)
 }
 
 fn check(desk: &mut Desk, _: &[&str], out: &mut dyn Write) -> Done {
@@ -225,8 +226,9 @@ fn counts(desk: &mut Desk, _: &[&str], out: &mut dyn Write) -> Done {
 }
 
 fn save(desk: &mut Desk, arguments: &[&str], out: &mut dyn Write) -> Done {
-    if exercise::is_source(Path::new(arguments[0])) {
-        let name = arguments[0];
+    let path = Path::new(arguments[0]);
+    let name = files::shown(path);
+    if exercise::is_source(path) {
         return Err(format!("{name}: an image can't be saved as a source").into());
     }
     let image = desk.machine.save().map_err(|refusal| {
@@ -234,13 +236,9 @@ fn save(desk: &mut Desk, arguments: &[&str], out: &mut dyn Write) -> Done {
         format!("refused by {refusal}: {why}")
     })?;
     let bytes = [desk.exercise.preface.as_slice(), &image].concat();
-    files::write(Path::new(arguments[0]), &bytes)?;
-    let length = bytes.len();
-    Ok(writeln!(
-        out,
-        "saved in {}: {length} bytes; {}",
-        arguments[0], desk.counts
-    )?)
+    files::write(path, &bytes)?;
+    let (length, counts) = (bytes.len(), desk.counts);
+    Ok(writeln!(out, "saved in {name}: {length} bytes; {counts}")?)
 }
 
 fn reset(desk: &mut Desk, _: &[&str], out: &mut dyn Write) -> Done {
