@@ -2,6 +2,8 @@
 
 use std::fs::{self, File};
 use std::io::{self, Read, Write};
+use std::os::fd::{AsFd, BorrowedFd};
+use std::os::unix::fs::MetadataExt;
 use std::path::{Path, PathBuf};
 use std::process;
 
@@ -95,24 +97,54 @@ fn create_beside(target: &Path) -> io::Result<(PathBuf, File)> {
 }
 
 /// The file to be replaced, and what is known of it if it is there. What a link names is replaced,
-/// not the link; devices, folders, and files that may not be written, are left alone.
+/// not the link; devices, folders, files that may not be written and the one that standard output
+/// goes to are left alone.
 fn replaced(path: &Path) -> Result<(PathBuf, Option<fs::Metadata>), String> {
     let no = |why: &str| Err(format!("{}: {why}", shown(path)));
-    let Ok(target) = fs::canonicalize(path) else {
-        return match fs::symlink_metadata(path) {
-            Ok(_) => no("is a link to nothing"),
-            Err(_) => Ok((path.to_path_buf(), None)),
-        };
-    };
-    match fs::metadata(&target) {
-        Ok(old) if !old.is_file() => no("is no regular file"),
+    let old = match fs::metadata(path) {
+        Ok(old) if !old.is_file() => return no("is no regular file"),
         // The new file would take its place all the same.
-        Ok(old) if old.permissions().readonly() => no("is read-only"),
-        old => match File::options().write(true).open(&target) {
-            Ok(_) => Ok((target, old.ok())),
-            Err(e) => no(&reason(&e)),
-        },
+        Ok(old) if old.permissions().readonly() => return no("is read-only"),
+        Ok(old) if output().is_some_and(|output| is_same(&output, &old)) => {
+            return no("is where standard output goes")
+        }
+        Ok(old) => old,
+        Err(_) if path.is_symlink() => return no("is a link to nothing"),
+        Err(_) => return Ok((path.to_path_buf(), None)),
+    };
+    match (
+        fs::canonicalize(path),
+        File::options().write(true).open(path),
+    ) {
+        (Ok(target), Ok(_)) => Ok((target, Some(old))),
+        (Err(e), _) | (_, Err(e)) => no(&reason(&e)),
     }
+}
+
+/// Whether both are one file.
+pub fn is_same(one: &fs::Metadata, other: &fs::Metadata) -> bool {
+    (one.dev(), one.ino()) == (other.dev(), other.ino())
+}
+
+/// What standard output goes to, where that can be told.
+fn output() -> Option<fs::Metadata> {
+    about(io::stdout().as_fd())
+}
+
+/// What a stream is.
+pub fn about(stream: BorrowedFd<'_>) -> Option<fs::Metadata> {
+    File::from(stream.try_clone_to_owned().ok()?)
+        .metadata()
+        .ok()
+}
+
+/// Whether a file is a source, by its name or by that of the file that a link leads to.
+pub fn is_source(path: &Path) -> bool {
+    let source = |path: &Path| {
+        path.extension()
+            .is_some_and(|extension| extension.eq_ignore_ascii_case("qasm"))
+    };
+    source(path) || fs::canonicalize(path).is_ok_and(|target| source(&target))
 }
 
 /// A name on one line, whatever it holds.

@@ -6,6 +6,7 @@ use std::env;
 use std::ffi::OsString;
 use std::fs;
 use std::io::{self, Write};
+use std::os::fd::AsFd;
 use std::path::PathBuf;
 use std::process::ExitCode;
 
@@ -108,11 +109,15 @@ fn named(argument: OsString) -> Option<PathBuf> {
 
 /// The output must not take the place of the input.
 fn apart(arguments: &Arguments) -> Result<(), String> {
-    let (Some(input), Some(output)) = (&arguments.input, &arguments.output) else {
+    let Some(output) = &arguments.output else {
         return Ok(());
     };
-    match (fs::canonicalize(input), fs::canonicalize(output)) {
-        (Ok(read), Ok(written)) if read == written => Err(format!(
+    let read = match &arguments.input {
+        Some(input) => fs::metadata(input).ok(),
+        None => files::about(io::stdin().as_fd()),
+    };
+    match (read, fs::metadata(output)) {
+        (Some(read), Ok(written)) if files::is_same(&read, &written) => Err(format!(
             "{}: is read, and so it is not written",
             files::shown(output)
         )),

@@ -1,7 +1,6 @@
 //! The commands: a row and a function each.
 
 use crate::desk::{Desk, Stretch};
-use crate::exercise;
 use crate::picture::picture;
 use crate::show;
 use crate::typed;
@@ -201,6 +200,9 @@ fn table(desk: &mut Desk, _: &[&str], out: &mut dyn Write) -> Done {
 fn draw(desk: &mut Desk, arguments: &[&str], out: &mut dyn Write) -> Done {
     let path = Path::new(arguments[0]);
     let name = files::shown(path);
+    if files::is_source(path) {
+        return Err(format!("{name}: a picture can't be drawn over a source").into());
+    }
     if !name.ends_with(".svg") {
         return Err(format!("{name}: a picture's name ends in .svg").into());
     }
@@ -228,7 +230,7 @@ fn counts(desk: &mut Desk, _: &[&str], out: &mut dyn Write) -> Done {
 fn save(desk: &mut Desk, arguments: &[&str], out: &mut dyn Write) -> Done {
     let path = Path::new(arguments[0]);
     let name = files::shown(path);
-    if exercise::is_source(path) {
+    if files::is_source(path) {
         return Err(format!("{name}: an image can't be saved as a source").into());
     }
     let image = desk.machine.save().map_err(|refusal| {

@@ -7,12 +7,6 @@ use std::path::Path;
 /// The refusal of a file that is no image at all.
 const NO_IMAGE: u32 = 2;
 
-/// Whether a file is a source, by its name.
-pub fn is_source(path: &Path) -> bool {
-    path.extension()
-        .is_some_and(|extension| extension.eq_ignore_ascii_case("qasm"))
-}
-
 /// What was read from a file.
 pub struct Exercise {
     pub machine: Machine,
@@ -35,7 +29,7 @@ impl Exercise {
     pub fn open(path: &Path) -> Result<Exercise, String> {
         let name = files::shown(path);
         let bytes = files::read(path)?;
-        if !is_source(path) {
+        if !files::is_source(path) {
             return Exercise::load(path, &bytes);
         }
         let source = files::text(bytes).map_err(|why| format!("{name}: {why}"))?;

@@ -78,13 +78,15 @@ pub fn wait_for_input() -> io::Result<()> {
         sigaddset(&mut blocked, SIGINT);
         pthread_sigmask(SIG_BLOCK, &blocked, &mut old);
         let waited = match raised() {
-            true => Err(io::ErrorKind::Interrupted.into()),
             false if ppoll(&mut input, 1, ptr::null(), &old) < 0 => Err(io::Error::last_os_error()),
-            false => Ok(()),
+            _ => Ok(()),
         };
         pthread_sigmask(SIG_SETMASK, &old, ptr::null_mut());
         waited
     };
-    clear();
-    waited
+    // It may also have come together with what there is to read.
+    match RAISED.swap(false, Ordering::Relaxed) {
+        true => Err(io::ErrorKind::Interrupted.into()),
+        false => waited,
+    }
 }

@@ -5,7 +5,7 @@ use crate::desk::Desk;
 use crate::exercise::Exercise;
 use crate::interrupt;
 use crate::show;
-use crate::terminal::{self, Line};
+use crate::terminal::{self, Input, Line};
 use crate::typed;
 use crate::words::word;
 use crank::PC;
@@ -123,19 +123,25 @@ fn greet(file: &Path, desk: &Desk, out: &mut dyn Write) -> io::Result<()> {
     writeln!(out, "help lists the commands")
 }
 
-/// Obeys the commands of a line up to a bad one; the answer of each is out before the next.
+/// Obeys the commands of a line up to a bad one, or one that Ctrl-C stopped; the answer of each is
+/// out before the next.
 fn obey(desk: &mut Desk, line: &str, out: &mut dyn Write) -> Result<(), Stop> {
-    line.split(';').try_for_each(|command| {
+    for command in line.split(';') {
         let done = commands::run(desk, command, out);
         out.flush()?;
-        done
-    })
+        done?;
+        if interrupt::raised() {
+            break;
+        }
+    }
+    Ok(())
 }
 
 /// Commands from a pipe or a file: a bad one ends the program.
 fn from_pipe(desk: &mut Desk, out: &mut dyn Write) -> Result<(), Stop> {
+    let mut input = terminal::input();
     loop {
-        match next_line()? {
+        match next_line(&mut input)? {
             Line::Text(text) => obey(desk, &text, out)?,
             Line::Bad(line) => return Err(Stop::Bad(line)),
             Line::Interrupted => {}
@@ -146,12 +152,13 @@ fn from_pipe(desk: &mut Desk, out: &mut dyn Write) -> Result<(), Stop> {
 
 /// Commands as they are typed: after a bad one it goes on.
 fn at_terminal(desk: &mut Desk, out: &mut dyn Write) -> Result<(), Stop> {
+    let mut input = terminal::input();
     loop {
         // One that stopped a run is done with.
         interrupt::clear();
         write!(out, "{PROMPT}")?;
         out.flush()?;
-        let done = match next_line()? {
+        let done = match next_line(&mut input)? {
             Line::Text(text) => obey(desk, &text, out),
             Line::Bad(line) => Err(Stop::Bad(line)),
             Line::Interrupted => Ok(writeln!(out)?),
@@ -164,7 +171,7 @@ fn at_terminal(desk: &mut Desk, out: &mut dyn Write) -> Result<(), Stop> {
     }
 }
 
-fn next_line() -> Result<Line, Stop> {
-    terminal::read_line(&mut io::stdin().lock())
+fn next_line(input: &mut Input) -> Result<Line, Stop> {
+    terminal::read_line(input)
         .map_err(|e| Stop::Bad(format!("standard input: {}", files::reason(&e))))
 }

@@ -1,7 +1,7 @@
 //! Lines in, and what goes to standard error: faults and the progress of a long run.
 
 use crate::interrupt;
-use std::io::{self, BufRead, IsTerminal, Write};
+use std::io::{self, BufRead, BufReader, IsTerminal, StdinLock, Write};
 use std::time::{Duration, Instant};
 
 /// The most bytes of a line, so that an endless one ends.
@@ -27,41 +27,56 @@ pub enum Line {
     End,
 }
 
+/// Standard input, with what is read of it and not yet used.
+pub type Input = BufReader<StdinLock<'static>>;
+
+/// It is read by one hand alone.
+pub fn input() -> Input {
+    BufReader::new(io::stdin().lock())
+}
+
 /// The next line, without its end.
 ///
 /// # Errors
 ///
 /// A fault of the input.
-pub fn read_line(input: &mut impl BufRead) -> io::Result<Line> {
+pub fn read_line(input: &mut Input) -> io::Result<Line> {
     let mut line = Vec::new();
     loop {
-        // A terminal gives a line at a time, so that none waits in the buffer here.
-        let waited = match interrupt::installed() {
-            true => interrupt::wait_for_input(),
-            false => Ok(()),
-        };
-        let found = match waited.and_then(|()| input.fill_buf()) {
-            Err(e) if e.kind() == io::ErrorKind::Interrupted => return Ok(Line::Interrupted),
+        let found = match more(input) {
+            Err(e) if e.kind() == io::ErrorKind::Interrupted => {
+                input.consume(input.buffer().len());
+                return Ok(Line::Interrupted);
+            }
             found => found?,
         };
-        if found.is_empty() && line.is_empty() {
+        // Half a line is a command in a pipe, and none at a terminal.
+        let ended = found.is_empty();
+        if ended && (line.is_empty() || interrupt::installed()) {
             return Ok(Line::End);
         }
         let end = found.iter().position(|byte| *byte == b'\n');
         line.extend(&found[..end.unwrap_or(found.len())]);
-        let last = found.is_empty() || end.is_some();
         let used = end.map_or(found.len(), |end| end + 1);
         input.consume(used);
         if line.len() > MAX_LINE {
             return Ok(Line::Bad(format!("a line of over {MAX_LINE} bytes")));
         }
-        if last {
+        if ended || end.is_some() {
             return Ok(match String::from_utf8(line) {
                 Ok(text) => Line::Text(text),
                 Err(_) => Line::Bad("the line is no text in UTF-8".to_string()),
             });
         }
     }
+}
+
+/// What there is, waited for where commands are typed, so that Ctrl-C shows.
+fn more(input: &mut Input) -> io::Result<&[u8]> {
+    if input.buffer().is_empty() && interrupt::installed() {
+        interrupt::wait_for_input()?;
+    }
+    input.fill_buf()
 }
 
 /// How far a long piece of work is: a line on standard error that is written over, on a terminal

@@ -229,3 +229,52 @@ fn no_progress_in_a_pipe() {
     }
     println!("pipe: no progress of a list and of a hand-in");
 }
+
+/// What stands behind a run that was stopped is not obeyed: it was meant for its end.
+#[test]
+fn ctrl_c_drops_the_rest_of_the_line() {
+    let mut terminal = endless("rest");
+    let turns = stop(&mut terminal, "run; save never.img; q");
+    let counts = ask(&mut terminal, "c; c");
+    let line = format!("forward {turns}, back 0, net {turns}\n");
+    assert_eq!(counts, line.repeat(2));
+    terminal.press("q\n");
+    assert!(terminal.end().1.success());
+}
+
+/// Half a command is none: Ctrl-D twice in the middle of a line ends the program.
+#[test]
+fn half_a_line_is_no_command() {
+    let folder = scratch("half");
+    let mut terminal = bench(&folder, &["examples/first.img"]);
+    terminal.prompt();
+    terminal.press("save half.im");
+    terminal.wait(|new| new.ends_with("half.im"));
+    terminal.press(CTRL_D);
+    terminal.press(CTRL_D);
+    let (screen, status) = terminal.end();
+    assert!(status.success(), "{screen}");
+    assert!(!folder.join("half.im").exists(), "{screen}");
+}
+
+/// Lines that come at once are obeyed one after the other, where the terminal does not keep them
+/// apart too.
+#[test]
+fn lines_at_once() {
+    let folder = scratch("at-once");
+    for mode in ["icanon", "-icanon"] {
+        let mut shell = Command::new("sh");
+        let script = "stty $1 && exec $2 examples/first.img";
+        shell.args(["-c", script, "sh", mode, env!("CARGO_BIN_EXE_bench")]);
+        shell.current_dir(&folder);
+        let mut terminal = Terminal::spawn(shell);
+        terminal.prompt();
+        terminal.press("f\nf\nb\nc\nq\n");
+        let (screen, status) = terminal.end();
+        assert!(status.success(), "{mode}: {screen}");
+        assert!(
+            screen.contains("forward 2, back 1, net 1\n"),
+            "{mode}: {screen}"
+        );
+    }
+}

@@ -26,6 +26,14 @@ fn main() -> ExitCode {
 }
 
 fn work(program: &Program, arguments: &Arguments) -> Result<(), String> {
+    if let Some(output) = arguments
+        .output
+        .as_deref()
+        .filter(|name| files::is_source(name))
+    {
+        let name = files::shown(output);
+        return Err(format!("{name}: an image can't be written as a source"));
+    }
     let source = text(arguments)?;
     let assembled = assemble(&source).map_err(|e| arguments.about(e))?;
     for warning in &assembled.warnings {
@@ -34,10 +42,12 @@ fn work(program: &Program, arguments: &Arguments) -> Result<(), String> {
     if !arguments.listing {
         return arguments.write(&assembled.image);
     }
-    if arguments.output.is_some() {
-        arguments.write(&assembled.image)?;
+    // First, so that no image is written where the listing fails.
+    print(listing(&source, &assembled).as_bytes())?;
+    match arguments.output {
+        Some(_) => arguments.write(&assembled.image),
+        None => Ok(()),
     }
-    print(listing(&source, &assembled).as_bytes())
 }
 
 fn text(arguments: &Arguments) -> Result<String, String> {

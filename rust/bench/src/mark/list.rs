@@ -34,7 +34,8 @@ pub fn read(list: &Path) -> Result<Vec<Entry>, String> {
     let mut entries = Vec::new();
     for (index, line) in bytes.split(|&byte| byte == b'\n').enumerate() {
         let line = line.trim_ascii();
-        if !line.is_empty() && !line.starts_with(b"#") {
+        let heading = entries.is_empty() && is_heading(line);
+        if !line.is_empty() && !line.starts_with(b"#") && !heading {
             entries.push(hand_in(folder, line).map_err(|fault| NoHandIn {
                 line: index + 1,
                 fault,
@@ -52,11 +53,7 @@ fn hand_in(folder: &Path, line: &[u8]) -> Result<HandIn, String> {
     let line = str::from_utf8(line).map_err(|_| "is no text".to_string())?;
     let (line, back) = last_field(line);
     let (name, forward) = last_field(line);
-    // A spreadsheet may put the name between quotation marks.
-    let quoted = name
-        .strip_prefix('"')
-        .and_then(|name| name.strip_suffix('"'));
-    let name = quoted.unwrap_or(name);
+    let name = unquoted(name);
     if name.is_empty() {
         return Err("a name and two counts are needed".to_string());
     }
@@ -64,8 +61,27 @@ fn hand_in(folder: &Path, line: &[u8]) -> Result<HandIn, String> {
         name: name.to_string(),
         // Joining keeps an absolute name as it is.
         path: folder.join(name),
-        net: Net::new(count(forward)?, count(back)?),
+        net: Net::new(count(unquoted(forward))?, count(unquoted(back))?),
     })
+}
+
+/// A spreadsheet may put what it exports between quotation marks.
+fn unquoted(field: &str) -> &str {
+    let inner = field.strip_prefix('"');
+    inner
+        .and_then(|rest| rest.strip_suffix('"'))
+        .unwrap_or(field)
+}
+
+/// Whether a line names the columns.
+fn is_heading(line: &[u8]) -> bool {
+    let Ok(line) = str::from_utf8(line) else {
+        return false;
+    };
+    let (line, back) = last_field(line);
+    let (_, forward) = last_field(line);
+    let named = |field: &str, name: &str| unquoted(field).eq_ignore_ascii_case(name);
+    named(forward, "forward") && named(back, "back")
 }
 
 /// What stands before the last field, and the field.

@@ -45,7 +45,12 @@ fn hand_ins(folder: &Folder) {
 }
 
 /// What a line of the list should give.
-const LINES: [(&str, &str); 37] = [
+const LINES: [(&str, &str); 39] = [
+    ("Name, Forward, \"Back\"", ""),
+    (
+        "\"right.img\",\"7\",\"0\"",
+        "right.img: fits; not at finish",
+    ),
     ("start.img 5 5", "start.img: fits; at start"),
     (
         "finish.img 35 0",
@@ -152,15 +157,15 @@ const LINES: [(&str, &str); 37] = [
     ),
     (
         "right.img 7",
-        "line 33: cannot be marked: a name and two counts are needed",
+        "line 35: cannot be marked: a name and two counts are needed",
     ),
     (
         "right.img seven 0",
-        "line 34: cannot be marked: count seven is no number from 0 to 18446744073709551615",
+        "line 36: cannot be marked: count seven is no number from 0 to 18446744073709551615",
     ),
     (
         "right.img 7 -1",
-        "line 35: cannot be marked: count -1 is no number from 0 to 18446744073709551615",
+        "line 37: cannot be marked: count -1 is no number from 0 to 18446744073709551615",
     ),
     (
         "right.img 1000000001 0",
@@ -186,7 +191,7 @@ fn every_kind_of_line() {
     let folder = Folder::new("list");
     hand_ins(&folder);
     let from = examples().join("loop.qasm").display().to_string();
-    let summary = "35 hand-ins: 13 fit, 13 do not fit, 9 cannot be marked";
+    let summary = "36 hand-ins: 14 fit, 13 do not fit, 9 cannot be marked";
     let expected = Ran::quiet(1, said(summary));
     for text in [list("\n"), list("\r\n"), format!("\u{feff}{}", list("\n"))] {
         folder.write("list", text);
