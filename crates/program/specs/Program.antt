@@ -40,7 +40,8 @@ pub record ProgramPromise (file mem table : List ℕ) (w : ℕ) (a : Batch) (mem
 abbrev pub statusOf : (refusal : ℕ) (written : Bool) → ℕ
 statusOf refusal written = pick written (pick (eqb refusal 0) 0 1) 3
 
--- The status of a run is that of load's refusal and of what was written, which no contract can say.
+-- The status of a run is that of a refusal and of whether all was written; which ones, no contract can say, since the
+-- file is read and the answer written outside of any.
 pub record Ran (r : ℕ) : Type 0 where
   pub refusal : ℕ
   pub written : Bool
