@@ -1,8 +1,9 @@
 /* The calls of the crank bench for C and C++: QINS on basis states, forward and back.
  *
  * Link libcapi.a for the turns, batches and images, libsession.a for the lesson bench, libprogram.a
- * for the crank program; each is complete, and one program may link all. docs/CALLS.md says how they are built, docs/MANUAL.md
- * what the machine does and, in section 9, what each refusal means. A refusal of 0 is none.
+ * for the crank program; each is complete, and one program may link all. docs/CALLS.md says how they
+ * are built, docs/MANUAL.md what the machine does and, in section 9, what each refusal means. A
+ * refusal of 0 is none.
  *
  * A lent slice is a pointer and then its length in elements. The pointer is never null, not even
  * for length 0, and what a call may write overlaps nothing else that is lent to it. That apart,

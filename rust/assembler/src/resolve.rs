@@ -7,11 +7,7 @@ use crate::text::{
     as_count, as_word, number, operands, quoted, split_word, starts_name, without_parentheses, FROM,
 };
 use crate::Checked;
-use crank::NODE_FIELDS;
-use crank::{Record, NODE_WORDS};
-
-/// The last field; the others are links.
-const W: usize = NODE_WORDS - 1;
+use crank::{Record, NODE_FIELDS, NODE_WORDS, W};
 
 impl Source<'_> {
     /// The memory word at the address `here`.
@@ -46,6 +42,7 @@ impl Source<'_> {
             }
             node[place] = match place {
                 W => as_count(number(value)?)?,
+                // All others are links.
                 _ => self.link(value)?,
             };
         }

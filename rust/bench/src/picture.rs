@@ -4,15 +4,9 @@ mod forest;
 
 use crate::exercise::Exercise;
 use crate::show;
-use crank::NODE_FIELDS;
-use crank::{Machine, NODE_WORDS};
+use crank::{Machine, FC, LC, NODE_FIELDS, NODE_WORDS, NX, W};
 use forest::Place;
 
-/// The fields of a node: first and last child for coin 0, next, the wait.
-const FC: usize = 0;
-const LC: usize = 2;
-const NX: usize = 6;
-const W: usize = 8;
 /// Sizes in pixels.
 const MARGIN: i64 = 24;
 const LINE: i64 = 17;

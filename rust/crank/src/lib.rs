@@ -50,6 +50,14 @@ pub const NODE_WORDS: usize = 9;
 /// The words of a node by name.
 pub const NODE_FIELDS: [&str; NODE_WORDS] =
     ["fc0", "fc1", "lc0", "lc1", "cf", "cl", "nx", "pr", "w"];
+/// Places in a node: the first child for coin 0, behind which is that for coin 1.
+pub const FC: usize = 0;
+/// The last child for coin 0, behind which is that for coin 1.
+pub const LC: usize = 2;
+/// The next node.
+pub const NX: usize = 6;
+/// The cycles to wait.
+pub const W: usize = 8;
 /// The registers by name.
 pub const REGISTERS: [&str; 16] = [
     "pc", "br", "ro", "sp", "r1", "r2", "r3", "r4", "r5", "r6", "r7", "r8", "r9", "r10", "r11",

@@ -3,10 +3,10 @@
 //! Any table has one, a crooked one too: each node is placed where it is met first, and a link to a
 //! placed node is only a line. Without recursion, since a chain may be as long as the table.
 
-use crank::NODE_WORDS;
+use crank::{FC, NODE_WORDS, NX};
 
-/// The fields of the links that are followed, in this order: fc0, fc1, nx.
-const FOLLOWED: [usize; 3] = [0, 1, 6];
+/// The links that are followed, in this order: fc0, fc1, nx.
+const FOLLOWED: [usize; 3] = [FC, FC + 1, NX];
 /// Trees stand side by side up to this many columns, then below.
 const SHELF: usize = 16;
 
