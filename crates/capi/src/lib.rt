@@ -3,6 +3,7 @@ ghost use mathlib.Core.Path.{_≡_};
 ghost use Rattle.step.specs.declared.Direction.{Direction};
 ghost use Rattle.machine.specs.Calls.{TurnPromise};
 ghost use Rattle.machine.specs.Batch.{BatchPromise};
+ghost use Rattle.wheel.specs.Wheel.{WheelPromise};
 ghost use lib.ListN.{length};
 ghost use Rattle.word.specs.Word.{pick};
 ghost use Rattle.qins.specs.Decode.{isInstruction};
@@ -14,6 +15,7 @@ use image::Loaded;
 use machine::Batch;
 use machine::Record;
 use machine::Turned;
+use wheel::Wheeled;
 
 // 1 where the word is an instruction, else 0.
 #[no_mangle]
@@ -49,6 +51,19 @@ pub extern "C" fn crank_back_batch(r: Record, n: u32, mem: &mut [u32], table: &[
     ensures { λ a. ⌜ BatchPromise Direction.Back n r (now (mem .entry)) (now (table .entry)) a (now (mem .exit)) ⌝ }
 {
     r.back_batch(n, mem, table)
+}
+
+#[no_mangle]
+pub extern "C" fn crank_samples(
+    r: Record,
+    given: u8,
+    samples: &[u8],
+    mem: &mut [u32],
+    table: &[u32],
+) -> Wheeled
+    ensures { λ a. ⌜ WheelPromise given (now (samples .entry)) r (now (mem .entry)) (now (table .entry)) a (now (mem .exit)) ⌝ }
+{
+    wheel::follow(r, given, samples, mem, table)
 }
 
 #[no_mangle]

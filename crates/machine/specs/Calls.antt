@@ -3,7 +3,9 @@ use Prim.Native.Nat.{ℕ}
 use mathlib.Core.Path.{_≡_}
 use mathlib.Core.Bool.{Bool}
 use mathlib.Core.List.{List, [], _∷_, _++_}
+use lib.Dec.{eqb}
 use lib.ListN.{take, drop}
+use Rattle.word.specs.Word.{pick}
 use Rattle.step.specs.declared.Status.{Status}
 use Rattle.step.specs.declared.Direction.{Direction}
 use Rattle.step.specs.declared.Attempt.{Attempt}
@@ -79,6 +81,10 @@ machineOf r mem = record { state = r; memory = mem }
 
 abbrev pub Bounded : Machine → Type 0
 Bounded x = Bounds (viewOf (x .state) (x .memory))
+
+-- a turn counts 1 where its refusal is 0
+abbrev pub accepted : ℕ → ℕ
+accepted refusal = pick (eqb refusal 0) 1 0
 
 module _ (table : List ℕ) where
   abbrev pub refusal : Direction → Machine → ℕ

@@ -1,0 +1,4 @@
+pub mod Turns
+pub mod Taken
+pub mod Loop
+pub mod Circle

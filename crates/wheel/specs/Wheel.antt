@@ -1,0 +1,94 @@
+-- The wheel (document 02, #101): encoder samples, a byte each, each of which makes one turn or none.
+use Prim.Native.Nat.{ℕ, _+_, _-_, _%_}
+use mathlib.Core.Path.{_≡_}
+use mathlib.Core.List.{List, [], _∷_}
+use lib.Dec.{eqb, ltb}
+use Rattle.word.specs.Word.{pick, subWord}
+use Rattle.step.specs.declared.Direction.the-variants.{Forward, Back}
+use Rattle.step.specs.View.{Bounds}
+use Rattle.machine.specs.Calls.{viewOf, turnOf, memoryOf, accepted}
+use Rattle.machine.specs.declared.Record.{Record}
+use Rattle.machine.specs.declared.Turned.{Turned}
+use Rattle.wheel.specs.declared.Wheeled.{Wheeled}
+
+-- ---- a sample behind another
+
+-- where a sample stands on the circle 0, 1, 3, 2
+abbrev pub place : ℕ → ℕ
+place s = pick (eqb s 2) 3 (pick (eqb s 3) 2 s)
+
+-- the steps along the circle from p to s
+abbrev pub steps : ℕ → ℕ → ℕ
+steps p s = subWord (place s) (place p) % 4
+
+-- why the sample s behind p ends the call, 0 where it doesn't: 20 above 3, then 19 two steps away
+abbrev pub fault : ℕ → ℕ → ℕ
+fault p s = pick (ltb 3 s) 20 (pick (eqb (steps p s) 2) 19 0)
+
+-- ---- the turn of k steps: one is a turn forward; three are one against the circle, a turn back; none is no turn
+
+abbrev pub turnBy : ℕ → Record → List ℕ → List ℕ → Turned
+turnBy k r mem table = pick (eqb k 1) (turnOf Forward r mem table) (pick (eqb k 3) (turnOf Back r mem table) (record { refusal = 0; state = r }))
+
+abbrev pub memoryBy : ℕ → Record → List ℕ → List ℕ → List ℕ
+memoryBy k r mem table = pick (eqb k 1) (memoryOf Forward r mem table) (pick (eqb k 3) (memoryOf Back r mem table) mem)
+
+-- ---- the samples of a call
+
+-- between two samples: the answer so far, and the lent memory
+pub record Wheel : Type 0 where
+  pub answer : Wheeled
+  pub memory : List ℕ
+
+abbrev pub wheelOf : Wheeled → List ℕ → Wheel
+wheelOf a mem = record { answer = a; memory = mem }
+
+-- before the first sample: the given one is the last
+abbrev pub started : ℕ → Record → Wheeled
+started given r = record { forward = 0; back = 0; refused = 0; last = given; refusal = 0; state = r }
+
+-- the sample s, whose turn of k steps answered t: counted forward or back where it was accepted, else as refused
+abbrev pub counted : ℕ → ℕ → Turned → Wheeled → Wheeled
+counted k s t a =
+    record {
+      forward = a .forward + pick (eqb k 1) (accepted (t .refusal)) 0;
+      back = a .back + pick (eqb k 3) (accepted (t .refusal)) 0;
+      refused = a .refused + (1 - accepted (t .refusal));
+      last = s;
+      refusal = 0;
+      state = t .state;
+    }
+
+-- ended by a refusal: all else stands
+abbrev pub ended : ℕ → Wheeled → Wheeled
+ended n a = record { forward = a .forward; back = a .back; refused = a .refused; last = a .last; refusal = n; state = a .state }
+
+module _ (table : List ℕ) where
+  -- a sample k steps from the last one
+  abbrev pub moved : ℕ → ℕ → Wheel → Wheel
+  moved k s w =
+      let r = w .answer .state in
+      wheelOf (counted k s (turnBy k r (w .memory) table) (w .answer)) (memoryBy k r (w .memory) table)
+
+  -- a sample ends the call, or moves the wheel
+  unfoldable pub taken : ℕ → Wheel → Wheel
+  taken s w =
+      let p = w .answer .last in
+      pick (eqb (fault p s) 0) (moved (steps p s) s w) (wheelOf (ended (fault p s) (w .answer)) (w .memory))
+
+  -- sample by sample, up to the first that ends the call
+  unfoldable pub run : List ℕ → Wheel → Wheel
+  run [] w = w
+  run (s ∷ rest) w = pick (eqb (taken s w .answer .refusal) 0) (run rest (taken s w)) (taken s w)
+
+-- the whole call; the given sample is looked at before any
+abbrev pub turnedBy : ℕ → List ℕ → Record → List ℕ → List ℕ → Wheel
+turnedBy given samples r mem table =
+    pick (ltb 3 given) (wheelOf (ended 20 (started given r)) mem) (run table samples (wheelOf (started given r) mem))
+
+-- What a call with these samples from r, mem and table promises of its answer a and of the lent memory at exit; and the
+-- bounds of its arguments, as of a turn's.
+pub record WheelPromise (given : ℕ) (samples : List ℕ) (r : Record) (mem table : List ℕ) (a : Wheeled) (mem′ : List ℕ) : Type 0 where
+  pub answer : a ≡ turnedBy given samples r mem table .answer
+  pub memory : mem′ ≡ turnedBy given samples r mem table .memory
+  pub bounds : Bounds (viewOf r mem)

@@ -1,0 +1,131 @@
+// The wheel: encoder samples, each of which makes one turn or none.
+ghost use mathlib.Core.Path.{_≡_};
+ghost use Prim.Native.Nat.{_+_, _<_, _≤_};
+ghost use Rattle.word.specs.Word.{pick};
+ghost use Rattle.wheel.specs.Wheel.{place, steps, fault, turnBy, memoryBy, wheelOf, counted, taken, WheelPromise};
+use machine::Record;
+use machine::Turned;
+use word::choose;
+
+// What the samples of a call came to: turns accepted forward and back, and turns refused; the last sample
+// before the one that ended the call; the refusal of that one, 0 for none; and the new record.
+#[repr(C)]
+pub struct Wheeled {
+    pub forward: u64,
+    pub back: u64,
+    pub refused: u64,
+    pub last: u32,
+    pub refusal: u32,
+    pub state: Record,
+}
+
+fn wide(b: u8) -> u32
+    ensures { λ r. ⌜ r ≡ b ⌝ }
+{
+    b as u32
+}
+
+fn only_if(test: bool, n: u64) -> u64
+    ensures { λ r. ⌜ (r ≡ pick test n 0) × (r ≤ n) ⌝ }
+{
+    if test { n } else { 0 }
+}
+
+// ---- a sample behind another
+
+fn place_of(s: u32) -> u32
+    ensures { λ r. ⌜ r ≡ place s ⌝ }
+{
+    choose(s == 2, 3, choose(s == 3, 2, s))
+}
+
+fn steps_to(p: u32, s: u32) -> u32
+    ensures { λ r. ⌜ r ≡ steps p s ⌝ }
+{
+    word::sub_word(place_of(s), place_of(p)) % 4
+}
+
+fn fault_at(p: u32, s: u32) -> u32
+    ensures { λ r. ⌜ r ≡ fault p s ⌝ }
+{
+    choose(3 < s, 20, choose(steps_to(p, s) == 2, 19, 0))
+}
+
+// ---- the samples of a call
+
+fn turn_by(k: u32, r: Record, mem: &mut [u32], table: &[u32]) -> Turned
+    ensures { λ a.
+        ⌜ (a ≡ turnBy k r (now (mem .entry)) (now (table .entry)))
+        × (now (mem .exit) ≡ memoryBy k r (now (mem .entry)) (now (table .entry))) ⌝ }
+{
+    if k == 1 {
+        return r.forward(mem, table);
+    }
+    if k == 3 {
+        return r.back(mem, table);
+    }
+    Turned {
+        refusal: 0,
+        state: r,
+    }
+}
+
+// The counts have room: together they are at most the samples taken.
+fn count(k: u32, s: u32, t: Turned, w: Wheeled) -> Wheeled
+    requires { ⌜ w .forward + w .back + w .refused < 18446744073709551615 ⌝ }
+    ensures { λ r. ⌜ r ≡ counted k s t w ⌝ }
+{
+    let accepted = only_if(t.refusal == 0, 1);
+    let state = t.state;
+    Wheeled {
+        forward: w.forward + only_if(k == 1, accepted),
+        back: w.back + only_if(k == 3, accepted),
+        refused: w.refused + (1 - accepted),
+        last: s,
+        refusal: 0,
+        state,
+    }
+}
+
+fn take(s: u32, w: Wheeled, mem: &mut [u32], table: &[u32]) -> Wheeled
+    requires { ⌜ w .forward + w .back + w .refused < 18446744073709551615 ⌝ }
+    ensures { λ r. ⌜ wheelOf r (now (mem .exit)) ≡ taken (now (table .entry)) s (wheelOf w (now (mem .entry))) ⌝ }
+{
+    let n = fault_at(w.last, s);
+    if n != 0 {
+        let mut end = w;
+        end.refusal = n;
+        return end;
+    }
+    let k = steps_to(w.last, s);
+    let r = w.state;
+    let t = turn_by(k, r, mem, table);
+    count(k, s, t, w)
+}
+
+// Turns the machine as the samples say, up to the first that ends the call.
+pub fn follow(r: Record, given: u8, samples: &[u8], mem: &mut [u32], table: &[u32]) -> Wheeled
+    ensures { λ a. ⌜ WheelPromise given (now (samples .entry)) r (now (mem .entry)) (now (table .entry)) a (now (mem .exit)) ⌝ }
+{
+    let last = wide(given);
+    let mut w = Wheeled {
+        forward: 0,
+        back: 0,
+        refused: 0,
+        last,
+        refusal: choose(3 < last, 20, 0),
+        state: r,
+    };
+    if w.refusal != 0 {
+        return w;
+    }
+    let mut i = 0;
+    while i < samples.len() {
+        w = take(wide(samples[i]), w, mem, table);
+        if w.refusal != 0 {
+            return w;
+        }
+        i += 1;
+    }
+    w
+}
