@@ -1,2 +1,3 @@
 pub mod Reversible
+pub mod Samples
 pub mod Lists

@@ -13,20 +13,21 @@ use Rattle.step.specs.declared.Direction.{Direction}
 use Rattle.step.specs.declared.Direction.the-variants.{Forward, Back}
 use Rattle.step.specs.declared.Attempt.{Attempt}
 use Rattle.step.specs.Table.{tableWords}
-use Rattle.step.specs.View.{View}
+use Rattle.step.specs.View.{View, byWay}
 use Rattle.step.specs.Step.{number}
 use Rattle.machine.specs.Turn.{planned, turned}
-use Rattle.machine.specs.Calls.{Machine, Bounded, machineOf, statusOf, updated, viewOf, planOf, viewAfter, TurnPromise, refusal, next}
+use Rattle.machine.specs.Calls.{Machine, Bounded, machineOf, statusOf, updated, viewOf, planOf, viewAfter, TurnPromise, accepted, refusal, next}
 use Rattle.machine.specs.Batch.{after, BatchPromise}
 use Rattle.machine.specs.declared.Record.{Record}
 use Rattle.machine.specs.declared.Turned.{Turned}
 use Rattle.machine.specs.declared.Batch.{Batch}
 use Rattle.machine.proofs.Claims.{next-view, next-excess, refused-keeps, turn-home}
-use Rattle.lists.specs.Lists.{accepted, Call, Left, Straight, Alike, AlikeTables, Right, LeftAndRight}
-use Rattle.lists.specs.Lists.Call.{single, batch}
+use Rattle.lists.specs.Lists.{Call, Left, Straight, Alike, AlikeTables, Right, LeftAndRight}
+use Rattle.lists.specs.Lists.Call.{single, batch, samples}
 use Rattle.lists.specs.Lists.Left.{empty, then}
 use Rattle.lists.specs.Lists.Straight.{none, turn}
 use Rattle.lists.proofs.Reversible as R
+use Rattle.lists.proofs.Samples.{call-turns, by-turns}
 
 module _ (table : List ℕ) where
   abbrev Accepts : Direction → Machine → Type 0
@@ -65,9 +66,15 @@ module _ (table : List ℕ) where
 
   -- ---- so a list of calls is a tour
 
+  turn-on : {x y : Machine} {f b : ℕ} {d : Direction} {a : Turned} {mem : List ℕ} → Tour f b x y → TurnPromise d (y .state) (y .memory) table a mem
+      → Tour (byWay d (accepted (a .refusal)) 0 + f) (byWay d 0 (accepted (a .refusal)) + b) x (machineOf (a .state) mem)
+  turn-on {d = d} {a = a} t p = R.then-run Machine Accepts (next table) Bounded (turn-home table) d (accepted (a .refusal)) t (p .bounds) (single-run p)
+
   go-on : {x y z : Machine} {f b p q : ℕ} → Tour f b x y → Call table y p q z → Tour (p + f) (q + b) x z
-  go-on t (single d y a mem p) = R.then-run Machine Accepts (next table) Bounded (turn-home table) d (accepted (a .refusal)) t (p .bounds) (single-run p)
+  go-on t (single d y a mem p) = turn-on t p
   go-on t (batch d n y a mem p) = R.then-run Machine Accepts (next table) Bounded (turn-home table) d (a .turns) t (p .bounds) (batch-run p)
+  go-on {x = x} t (samples given l y a mem p) =
+      by-turns table (λ f b z. Tour f b x z) (λ d f b z a mem u h. turn-on u h) t (call-turns table given l (y .state) (y .memory) p)
 
   tour : {x y : Machine} {f b : ℕ} → Left table x f b y → Tour f b x y
   tour empty = R.Tour.empty

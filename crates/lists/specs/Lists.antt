@@ -2,26 +2,23 @@
 use Prim.Native.Nat.{ℕ, suc, _+_, _-_, _≤_}
 use mathlib.Core.Path.{_≡_}
 use mathlib.Core.List.{List}
-use lib.Dec.{eqb}
 use lib.ListN.{take, drop}
-use Rattle.word.specs.Word.{pick}
 use Rattle.step.specs.declared.Direction.{Direction}
 use Rattle.step.specs.declared.Direction.the-variants.{Forward, Back}
 use Rattle.step.specs.Table.{tableWords}
 use Rattle.step.specs.View.{byWay}
-use Rattle.machine.specs.Calls.{Machine, machineOf, TurnPromise, Leads}
+use Rattle.machine.specs.Calls.{Machine, machineOf, TurnPromise, accepted, Leads}
 use Rattle.machine.specs.Batch.{BatchPromise}
 use Rattle.machine.specs.declared.Turned.{Turned}
 use Rattle.machine.specs.declared.Batch.{Batch}
+use Rattle.wheel.specs.Wheel.{WheelPromise}
+use Rattle.wheel.specs.declared.Wheeled.{Wheeled}
 
 -- ---- Left: a list of calls
 
--- a single turn counts 1 where its refusal is 0
-abbrev pub accepted : ℕ → ℕ
-accepted refusal = pick (eqb refusal 0) 1 0
-
 -- One call from x: its accepted turns forward and back, and the machine that it leaves, with what it promises of the
--- answer a and of the memory at exit. A single turn counts its acceptance, a batch counts its k, this way alone.
+-- answer a and of the memory at exit. A single turn counts its acceptance, a batch counts its k, this way alone; samples
+-- count what their answer says, both ways.
 pub data Call (table : List ℕ) : Machine → ℕ → ℕ → Machine → Type 0 where
   single : (d : Direction) (x : Machine) (a : Turned) (mem : List ℕ)
       → TurnPromise d (x .state) (x .memory) table a mem
@@ -29,6 +26,9 @@ pub data Call (table : List ℕ) : Machine → ℕ → ℕ → Machine → Type 
   batch : (d : Direction) (n : ℕ) (x : Machine) (a : Batch) (mem : List ℕ)
       → BatchPromise d n (x .state) (x .memory) table a mem
       → Call table x (byWay d (a .turns) 0) (byWay d 0 (a .turns)) (machineOf (a .state) mem)
+  samples : (given : ℕ) (l : List ℕ) (x : Machine) (a : Wheeled) (mem : List ℕ)
+      → WheelPromise given l (x .state) (x .memory) table a mem
+      → Call table x (a .forward) (a .back) (machineOf (a .state) mem)
 
 -- Calls from x to y, each on what the last one left, with all accepted turns forward, f, and back, b. The list may be empty.
 pub data Left (table : List ℕ) : Machine → ℕ → ℕ → Machine → Type 0 where
