@@ -1,9 +1,10 @@
 // The lesson bench: one record, lent by `&mut`, that each crank call alters for its caller. A call
-// takes it apart, makes the turn or batch by value, puts the new record back and answers.
+// takes it apart, makes the turns by value, puts the new record back and answers.
 ghost use Rattle.step.specs.declared.Direction.{Direction};
 ghost use Rattle.machine.specs.Calls.{TurnPromise};
 ghost use Rattle.machine.specs.Batch.{BatchPromise};
-ghost use Rattle.session.specs.Bench.{turnedOn, crankedOn};
+ghost use Rattle.wheel.specs.Wheel.{WheelPromise};
+ghost use Rattle.session.specs.Bench.{turnedOn, crankedOn, sampledOn};
 use machine::Record;
 
 #[repr(C)]
@@ -15,6 +16,16 @@ pub struct Bench {
 #[repr(C)]
 pub struct Cranked {
     pub turns: u32,
+    pub refusal: u32,
+}
+
+// What the samples of a call came to on the bench: as the call by value answers, without the record.
+#[repr(C)]
+pub struct Sampled {
+    pub forward: u64,
+    pub back: u64,
+    pub refused: u64,
+    pub last: u32,
     pub refusal: u32,
 }
 
@@ -69,6 +80,29 @@ pub extern "C" fn bench_back_batch(b: &mut Bench, n: u32, mem: &mut [u32], table
     b.state = t.state;
     Cranked {
         turns: t.turns,
+        refusal: t.refusal,
+    }
+}
+
+// The turns that the wheel makes from the given sample through the samples.
+#[no_mangle]
+pub extern "C" fn bench_samples(
+    b: &mut Bench,
+    given: u8,
+    samples: &[u8],
+    mem: &mut [u32],
+    table: &[u32],
+) -> Sampled
+    ensures { λ r. ⌜ WheelPromise given (now (samples .entry)) (now (b .entry) .state) (now (mem .entry)) (now (table .entry)) (sampledOn (now (b .exit)) r) (now (mem .exit)) ⌝ }
+{
+    let r = b.state;
+    let t = wheel::follow(r, given, samples, mem, table);
+    b.state = t.state;
+    Sampled {
+        forward: t.forward,
+        back: t.back,
+        refused: t.refused,
+        last: t.last,
         refusal: t.refusal,
     }
 }

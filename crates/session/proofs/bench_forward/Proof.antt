@@ -11,4 +11,4 @@ use Rattle.session.proofs.bench_forward.Code as code
 pub bench-forward-spec : {M : Type 1} → stated.statement M
 unfolding code.routine
 bench-forward-spec 𝓤 H 𝓜 𝓖 𝓡 =
-    crank-spec turn _ (λ n. TurnPromise Forward) 𝓤 H 𝓜 𝓖 𝓡 code.env key.name (code.unfolded 𝓤 H 𝓜 𝓡) (g-thm.met 𝓤 H 𝓜 𝓖 𝓡)
+    crank-spec turn _ (TurnPromise Forward) 𝓤 H 𝓜 𝓖 𝓡 code.env key.name (code.unfolded 𝓤 H 𝓜 𝓡) (g-thm.met 𝓤 H 𝓜 𝓖 𝓡)
