@@ -25,6 +25,24 @@ pub struct Batch {
     pub state: Record,
 }
 
+/// What encoder samples come to.
+#[repr(C)]
+#[derive(Clone, Copy, Debug, PartialEq, Eq)]
+pub struct Wheeled {
+    /// The turns accepted forward.
+    pub forward: u64,
+    /// The turns accepted back.
+    pub back: u64,
+    /// The turns that the machine refused.
+    pub refused: u64,
+    /// The last sample before a 19 or 20; the given one if there is none.
+    pub last: u32,
+    /// 19 or 20, or 0 where all samples were taken.
+    pub refusal: u32,
+    /// The record after the accepted turns, with a refusal too.
+    pub state: Record,
+}
+
 /// What a load answers.
 #[repr(C)]
 #[derive(Clone, Copy, Debug, PartialEq, Eq)]
@@ -59,11 +77,23 @@ pub struct Cranked {
     pub refusal: u32,
 }
 
+/// What encoder samples come to on the lesson bench: [`Wheeled`] without the record.
+#[repr(C)]
+#[derive(Clone, Copy, Debug, PartialEq, Eq)]
+pub struct Sampled {
+    pub forward: u64,
+    pub back: u64,
+    pub refused: u64,
+    pub last: u32,
+    pub refusal: u32,
+}
+
 // As the header has them.
 const _: () = assert!(size_of::<Record>() == 84);
 const _: () = assert!(size_of::<Turned>() == 88 && size_of::<Loaded>() == 88);
 const _: () = assert!(size_of::<Batch>() == 92 && size_of::<Bench>() == 84);
 const _: () = assert!(size_of::<Checked>() == 8 && size_of::<Cranked>() == 8);
+const _: () = assert!(size_of::<Wheeled>() == 120 && size_of::<Sampled>() == 32);
 
 extern "C" {
     fn qins_is_instruction(word: u32) -> u32;
@@ -97,6 +127,16 @@ extern "C" {
         table: *const u32,
         table_len: usize,
     ) -> Batch;
+    fn crank_samples(
+        r: Record,
+        given: u8,
+        samples: *const u8,
+        samples_len: usize,
+        mem: *mut u32,
+        mem_len: usize,
+        table: *const u32,
+        table_len: usize,
+    ) -> Wheeled;
     fn bench_forward(
         b: *mut Bench,
         mem: *mut u32,
@@ -127,6 +167,16 @@ extern "C" {
         table: *const u32,
         table_len: usize,
     ) -> Cranked;
+    fn bench_samples(
+        b: *mut Bench,
+        given: u8,
+        samples: *const u8,
+        samples_len: usize,
+        mem: *mut u32,
+        mem_len: usize,
+        table: *const u32,
+        table_len: usize,
+    ) -> Sampled;
     fn crank_load(
         file: *const u8,
         file_len: usize,
@@ -194,6 +244,26 @@ pub fn back_batch(r: Record, n: u32, mem: &mut [u32], table: &[u32]) -> Batch {
         crank_back_batch(
             r,
             n,
+            mem.as_mut_ptr(),
+            mem.len(),
+            table.as_ptr(),
+            table.len(),
+        )
+    }
+}
+
+/// Turns as encoder samples say, `given` being the one before them. Each is 0 to 3, in the forward
+/// cycle 0, 1, 3, 2: an equal sample turns nothing, a step along the cycle turns forward, one
+/// against it back. A turn that the machine refuses is counted, and the samples go on. Refusals 19
+/// and 20 end them; the turns before stand.
+pub fn samples(r: Record, given: u8, samples: &[u8], mem: &mut [u32], table: &[u32]) -> Wheeled {
+    // SAFETY: pointers and lengths come from live slices.
+    unsafe {
+        crank_samples(
+            r,
+            given,
+            samples.as_ptr(),
+            samples.len(),
             mem.as_mut_ptr(),
             mem.len(),
             table.as_ptr(),
@@ -298,6 +368,29 @@ impl Bench {
             bench_back_batch(
                 self,
                 n,
+                mem.as_mut_ptr(),
+                mem.len(),
+                table.as_ptr(),
+                table.len(),
+            )
+        }
+    }
+
+    /// Turns as encoder samples say, by the rules of [`samples`].
+    pub fn samples(
+        &mut self,
+        given: u8,
+        samples: &[u8],
+        mem: &mut [u32],
+        table: &[u32],
+    ) -> Sampled {
+        // SAFETY: self and the slices are live and not aliased.
+        unsafe {
+            bench_samples(
+                self,
+                given,
+                samples.as_ptr(),
+                samples.len(),
                 mem.as_mut_ptr(),
                 mem.len(),
                 table.as_ptr(),
