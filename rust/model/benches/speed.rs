@@ -1,5 +1,5 @@
-//! Turns per second, forward and back, in single calls and in batches, of
-//! the library and of the model in one run.
+//! Turns per second, forward and back, in single calls, in batches and from
+//! encoder samples, of the library and of the model in one run.
 //!
 //! Options: `--seconds S`, the time for each figure (default 0.5).
 
@@ -14,16 +14,22 @@ use std::time::{Duration, Instant};
 use crank_model::instruction::{word_i, word_o, word_r};
 use crank_model::machine::{self, Batch, Record, NODE};
 use crank_model::state::{Machine, Turn, Way, WAYS};
+use crank_model::wheel::{self, SampleCall};
 
 type BatchCall = fn(Record, u32, &mut [u32], &[u32]) -> Batch;
 
-/// Turns made in one direction before they are made in the other.
+/// Turns made in one direction before they are made in the other; a whole
+/// number of the samples' cycles.
 const STRETCH: u32 = 20_000;
+
+/// The ways of calling, each a row of the table.
+const MODES: [&str; 3] = ["single", "batch", "samples"];
 
 struct Crank {
     name: &'static str,
     turns: [Turn; 2],
     batches: [BatchCall; 2],
+    samples: SampleCall,
 }
 
 /// The model last, as the others are compared with it.
@@ -33,16 +39,19 @@ fn cranks() -> Vec<Crank> {
             name: "library",
             turns: [proved::forward, proved::back],
             batches: [proved::forward_batch, proved::back_batch],
+            samples: proved::samples,
         },
         Crank {
             name: "bench",
             turns: [bench::forward, bench::back],
             batches: [bench::forward_batch, bench::back_batch],
+            samples: bench::samples,
         },
         Crank {
             name: "model",
             turns: [machine::forward, machine::back],
             batches: [machine::forward_batch, machine::back_batch],
+            samples: wheel::samples,
         },
     ]
 }
@@ -51,6 +60,7 @@ fn cranks() -> Vec<Crank> {
 mod bench {
     use super::proved::Bench;
     use crank_model::machine::{Batch, Record};
+    use crank_model::wheel::Wheeled;
 
     pub fn forward(r: Record, mem: &mut [u32], table: &[u32]) -> (u32, Record) {
         let mut bench = Bench::new(r);
@@ -80,6 +90,10 @@ mod bench {
         let mut bench = Bench::new(r);
         let made = bench.back_batch(n, mem, table);
         batch(bench, made)
+    }
+
+    pub fn samples(r: Record, given: u8, list: &[u8], mem: &mut [u32], table: &[u32]) -> Wheeled {
+        Bench::new(r).samples(given, list, mem, table)
     }
 }
 
@@ -196,6 +210,27 @@ fn batch_stretch(call: BatchCall, machine: &mut Machine) {
     }
 }
 
+/// The samples after a 0 that turn one stretch, and end at 0 again.
+fn stretch_of_samples(way: Way) -> Vec<u8> {
+    let cycle = match way {
+        Way::Forward => [1, 3, 2, 0],
+        Way::Back => [2, 3, 1, 0],
+    };
+    cycle.repeat(STRETCH as usize / cycle.len())
+}
+
+fn sample_stretch(call: SampleCall, samples: &[u8], machine: &mut Machine) {
+    let answer = call(
+        black_box(machine.record),
+        0,
+        black_box(samples),
+        black_box(&mut machine.mem),
+        black_box(&machine.table),
+    );
+    assert_eq!(answer.forward + answer.back, STRETCH.into());
+    machine.record = answer.record;
+}
+
 /// Million turns per second in both directions; the machine ends as it began.
 /// The median stretch counts, so that other work on the machine shows less.
 fn measure(
@@ -220,8 +255,9 @@ fn measure(
     })
 }
 
-/// Figures of each crank for one program: [crank][single or batch][way].
-fn figures(start: &Machine, time: Duration, cranks: &[Crank]) -> Vec<[[f64; 2]; 2]> {
+/// Figures of each crank for one program: [crank][mode][way].
+fn figures(start: &Machine, time: Duration, cranks: &[Crank]) -> Vec<[[f64; 2]; MODES.len()]> {
+    let lists = WAYS.map(stretch_of_samples);
     let each = |crank: &Crank| {
         let single = measure(start, time, |way, m| {
             single_stretch(crank.turns[way as usize], m);
@@ -229,13 +265,16 @@ fn figures(start: &Machine, time: Duration, cranks: &[Crank]) -> Vec<[[f64; 2]; 
         let batch = measure(start, time, |way, m| {
             batch_stretch(crank.batches[way as usize], m);
         });
-        [single, batch]
+        let samples = measure(start, time, |way, m| {
+            sample_stretch(crank.samples, &lists[way as usize], m);
+        });
+        [single, batch, samples]
     };
     cranks.iter().map(each).collect()
 }
 
-fn print_program(name: &str, cranks: &[Crank], found: &[[[f64; 2]; 2]]) {
-    for (mode, mode_name) in ["single", "batch"].iter().enumerate() {
+fn print_program(name: &str, cranks: &[Crank], found: &[[[f64; 2]; MODES.len()]]) {
+    for (mode, mode_name) in MODES.iter().enumerate() {
         for way in WAYS {
             let model = found[found.len() - 1][mode][way as usize];
             let way_name = format!("{way:?}").to_lowercase();

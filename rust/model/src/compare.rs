@@ -3,6 +3,7 @@
 use crate::cover::Cover;
 use crate::rng::Rng;
 use crate::state::{Machine, Turn, Way};
+use crate::wheel::{self, steps, SampleCall, Wheeled};
 
 /// What a batch gave: the turns made and the refusal.
 #[derive(Clone, Copy, Debug, PartialEq, Eq)]
@@ -64,6 +65,45 @@ pub fn follow(way: Way, model: &mut Machine, n: u32, made: Made, cover: &mut Cov
         );
     }
     assert_eq!(made.refusal, expected, "{way:?} batch of {n}: {model:?}");
+}
+
+/// Gives the same samples to the model and to `call`, and compares the whole
+/// answer and all lent words. `machine` becomes the result.
+pub fn same_samples(machine: &mut Machine, given: u8, samples: &[u8], call: SampleCall) -> Wheeled {
+    let start = machine.clone();
+    let mut other = machine.clone();
+    let answer = machine.samples(given, samples, wheel::samples);
+    let other_answer = other.samples(given, samples, call);
+    assert!(
+        answer == other_answer && *machine == other,
+        "samples differ: model {answer:?} {machine:?}, library {other_answer:?} {other:?}, \
+         from {start:?} by {samples:?} after {given}"
+    );
+    answer
+}
+
+/// Makes the single turns that samples name, one by one, past refused ones
+/// too. Gives how many were accepted forward, accepted back and refused.
+pub fn turn_by_turn(
+    machine: &mut Machine,
+    given: u8,
+    samples: &[u8],
+    turns: [Turn; 2],
+    cover: &mut Cover,
+) -> [u64; 3] {
+    let mut counts = [0; 3];
+    let mut goes_on = false;
+    for way in steps(given, samples).into_iter().flatten() {
+        let old = machine.record;
+        let refusal = machine.turn(turns[way as usize]);
+        cover.turn(way, &old, refusal, machine);
+        counts[if refusal == 0 { way as usize } else { 2 }] += 1;
+        goes_on |= refusal == 0 && counts[2] > 0;
+    }
+    if goes_on {
+        cover.count("accepted after a refused turn");
+    }
+    counts
 }
 
 /// Whether at most `limit` turns end in a refusal. A batch with a large n is

@@ -121,7 +121,8 @@ impl Cover {
         }
     }
 
-    fn named_times(&self, name: &str) -> u64 {
+    /// How often something was counted.
+    pub fn times(&self, name: &str) -> u64 {
         self.named
             .iter()
             .find(|(known, _)| known == name)
@@ -130,7 +131,7 @@ impl Cover {
 
     /// Fails if one of the names was never counted.
     pub fn demand(&self, names: &[&str]) {
-        let missed: Vec<_> = names.iter().filter(|n| self.named_times(n) == 0).collect();
+        let missed: Vec<_> = names.iter().filter(|n| self.times(n) == 0).collect();
         assert!(missed.is_empty(), "never reached: {missed:?}");
     }
 

@@ -99,6 +99,19 @@ fn damage_wait(rng: &mut Rng, machine: &mut Machine) {
     }
 }
 
+type Damage = fn(&mut Rng, &mut Machine);
+
+/// The kinds of damage, by name.
+pub const DAMAGES: [(&str, Damage); 7] = [
+    ("damaged size", damage_size),
+    ("damaged link", damage_link),
+    ("damaged code", damage_code),
+    ("damaged near pc", damage_near_pc),
+    ("damaged register", damage_register),
+    ("damaged coin", damage_coin),
+    ("damaged wait", damage_wait),
+];
+
 /// Damages one field of the machine.
 pub fn damage(rng: &mut Rng, machine: &mut Machine) {
     match rng.below(10) {

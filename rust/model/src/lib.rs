@@ -17,8 +17,10 @@ pub mod cover;
 pub mod damage;
 pub mod program;
 pub mod structured;
+pub mod wheel;
 
 pub mod compare;
 pub mod generate;
+pub mod walks;
 
 pub mod lists;

@@ -1,16 +1,41 @@
 //! Lists of calls: Left makes any calls, Right the single turns that remain.
 
-use crate::compare::{batch_size, follow, Made};
+use crate::compare::{batch_size, follow, turn_by_turn, Made};
 use crate::cover::Cover;
 use crate::machine::{sizes_fit, NODE};
 use crate::rng::Rng;
-use crate::state::{Machine, Turn, Way};
+use crate::state::{Machine, Turn, Way, WAYS};
+use crate::walks::random_samples;
+use crate::wheel;
 
-/// One call of a list.
-#[derive(Clone, Copy, Debug, PartialEq, Eq)]
+/// One call of a list; samples with the one before them.
+#[derive(Clone, Debug, PartialEq, Eq)]
 pub enum Call {
     Single(Way),
     Batch(Way, u32),
+    Samples(u8, Vec<u8>),
+}
+
+/// What a call of a list gave: the accepted turns and the refusal.
+#[derive(Clone, Copy, Debug, PartialEq, Eq)]
+pub struct Gave {
+    pub forward: u64,
+    pub back: u64,
+    pub refusal: u32,
+}
+
+impl Gave {
+    /// What a single turn or a batch gave.
+    pub fn one_way(way: Way, turns: u32, refusal: u32) -> Gave {
+        let mut accepted = [0; 2];
+        accepted[way as usize] = turns.into();
+        let [forward, back] = accepted;
+        Gave {
+            forward,
+            back,
+            refusal,
+        }
+    }
 }
 
 fn random_call(rng: &mut Rng, machine: &Machine) -> Call {
@@ -19,10 +44,50 @@ fn random_call(rng: &mut Rng, machine: &Machine) -> Call {
     } else {
         Way::Back
     };
-    if rng.chance(1, 3) {
-        return Call::Single(way);
+    match rng.below(4) {
+        0 => Call::Single(way),
+        1 => {
+            let (given, samples) = random_samples(rng, 200);
+            Call::Samples(given, samples)
+        }
+        _ => Call::Batch(way, batch_size(rng, way, machine)),
     }
-    Call::Batch(way, batch_size(rng, way, machine))
+}
+
+/// Makes the turns of a call with the model, and checks what the call gave.
+fn follow_call(call: &Call, model: &mut Machine, gave: Gave, cover: &mut Cover) {
+    // A single turn keeps the rules of a batch of 1.
+    let (way, n) = match call {
+        Call::Single(way) => (*way, 1),
+        Call::Batch(way, n) => (*way, *n),
+        Call::Samples(given, samples) => {
+            return follow_samples(*given, samples, model, gave, cover)
+        }
+    };
+    let turns = [gave.forward, gave.back][way as usize] as u32;
+    let made = Made {
+        turns,
+        refusal: gave.refusal,
+    };
+    follow(way, model, n, made, cover);
+}
+
+fn follow_samples(given: u8, samples: &[u8], model: &mut Machine, gave: Gave, cover: &mut Cover) {
+    let expected = model.clone().samples(given, samples, wheel::samples);
+    let turns = WAYS.map(|way| way.model());
+    let [forward, back, refused] = turn_by_turn(model, given, samples, turns, cover);
+    let counted = Gave {
+        forward,
+        back,
+        refusal: expected.refusal,
+    };
+    assert_eq!(gave, counted, "{samples:?} after {given}: {model:?}");
+    if forward > 0 && back > 0 {
+        cover.count("samples both ways");
+    }
+    if refused > 0 {
+        cover.count("samples with a refused turn");
+    }
 }
 
 /// Makes a random list of calls with `left`, following each with the model.
@@ -30,7 +95,7 @@ fn random_call(rng: &mut Rng, machine: &Machine) -> Call {
 pub fn run_left(
     rng: &mut Rng,
     machine: &mut Machine,
-    mut left: impl FnMut(&mut Machine, Call) -> Made,
+    mut left: impl FnMut(&mut Machine, &Call) -> Gave,
     cover: &mut Cover,
 ) -> i64 {
     let mut model = machine.clone();
@@ -38,19 +103,11 @@ pub fn run_left(
     let calls = rng.below(13);
     for _ in 0..calls {
         let call = random_call(rng, machine);
-        let made = left(machine, call);
-        // A single turn keeps the rules of a batch of 1.
-        let (way, n) = match call {
-            Call::Single(way) => (way, 1),
-            Call::Batch(way, n) => (way, n),
-        };
-        follow(way, &mut model, n, made, cover);
-        assert_eq!(*machine, model, "{call:?} gave {made:?}");
-        net += match way {
-            Way::Forward => i64::from(made.turns),
-            Way::Back => -i64::from(made.turns),
-        };
-        count_call(cover, call, made);
+        let gave = left(machine, &call);
+        follow_call(&call, &mut model, gave, cover);
+        assert_eq!(*machine, model, "{call:?} gave {gave:?}");
+        net += gave.forward as i64 - gave.back as i64;
+        count_call(cover, &call, gave);
     }
     if calls == 0 {
         cover.count("empty list");
@@ -58,15 +115,20 @@ pub fn run_left(
     net
 }
 
-fn count_call(cover: &mut Cover, call: Call, made: Made) {
+fn count_call(cover: &mut Cover, call: &Call, gave: Gave) {
     match call {
         Call::Batch(_, 0) => cover.count("batch of 0"),
         Call::Batch(_, u32::MAX) => cover.count("batch of 4294967295"),
         Call::Batch(..) => cover.count("batch"),
         Call::Single(_) => cover.count("single"),
+        Call::Samples(_, list) if list.is_empty() => cover.count("no samples"),
+        Call::Samples(..) => cover.count("samples"),
     }
-    if made.refusal != 0 {
-        cover.count("refused call");
+    match gave.refusal {
+        0 => {}
+        19 => cover.count("samples refused by 19"),
+        20 => cover.count("samples refused by 20"),
+        _ => cover.count("refused call"),
     }
 }
 
@@ -107,13 +169,19 @@ pub fn count_net(cover: &mut Cover, net: i64) {
 }
 
 /// What every list test must have met.
-pub const LIST_CASES: [&str; 9] = [
+pub const LIST_CASES: [&str; 15] = [
     "empty list",
     "batch of 0",
     "batch of 4294967295",
     "batch",
     "single",
     "refused call",
+    "no samples",
+    "samples",
+    "samples both ways",
+    "samples with a refused turn",
+    "samples refused by 19",
+    "samples refused by 20",
     "net 0",
     "net forward",
     "net back",

@@ -2,35 +2,57 @@
 
 mod proved;
 
-use crank_model::compare::Made;
 use crank_model::cover::Cover;
 use crank_model::generate::for_run;
-use crank_model::lists::{count_net, other_excess, run_left, run_right, Call, LIST_CASES};
+use crank_model::lists::{count_net, other_excess, run_left, run_right, Call, Gave, LIST_CASES};
 use crank_model::machine::{self, Batch, Record};
 use crank_model::rng::{rounds, Rng};
 use crank_model::state::{Machine, Turn, Way, WAYS};
+use crank_model::wheel::{self, SampleCall, Wheeled};
 
 type BatchCall = fn(Record, u32, &mut [u32], &[u32]) -> Batch;
 
+/// The calls by value, of the model or of the library.
+struct Calls {
+    turns: [Turn; 2],
+    batches: [BatchCall; 2],
+    samples: SampleCall,
+}
+
+const MODEL: Calls = Calls {
+    turns: [machine::forward, machine::back],
+    batches: [machine::forward_batch, machine::back_batch],
+    samples: wheel::samples,
+};
+
+const LIBRARY: Calls = Calls {
+    turns: [proved::forward, proved::back],
+    batches: [proved::forward_batch, proved::back_batch],
+    samples: proved::samples,
+};
+
+fn wheeled(answer: Wheeled) -> Gave {
+    Gave {
+        forward: answer.forward,
+        back: answer.back,
+        refusal: answer.refusal,
+    }
+}
+
 /// Makes one call by value.
-fn by_value(machine: &mut Machine, call: Call, turns: [Turn; 2], batches: [BatchCall; 2]) -> Made {
+fn by_value(machine: &mut Machine, call: &Call, calls: &Calls) -> Gave {
     match call {
         Call::Single(way) => {
-            let refusal = machine.turn(turns[way as usize]);
-            Made {
-                turns: u32::from(refusal == 0),
-                refusal,
-            }
+            let refusal = machine.turn(calls.turns[*way as usize]);
+            Gave::one_way(*way, u32::from(refusal == 0), refusal)
         }
         Call::Batch(way, n) => {
-            let call = batches[way as usize];
-            let batch = call(machine.record, n, &mut machine.mem, &machine.table);
+            let call = calls.batches[*way as usize];
+            let batch = call(machine.record, *n, &mut machine.mem, &machine.table);
             machine.record = batch.record;
-            Made {
-                turns: batch.turns,
-                refusal: batch.refusal,
-            }
+            Gave::one_way(*way, batch.turns, batch.refusal)
         }
+        Call::Samples(given, list) => wheeled(machine.samples(*given, list, calls.samples)),
     }
 }
 
@@ -56,50 +78,56 @@ fn lists(
     cover.demand(&LIST_CASES);
 }
 
-#[test]
-fn model() {
-    let turns: [Turn; 2] = [machine::forward, machine::back];
-    let batches: [BatchCall; 2] = [machine::forward_batch, machine::back_batch];
-    lists("model lists", 41, turns, |rng, machine, cover| {
-        let left = |m: &mut Machine, call| by_value(m, call, turns, batches);
+fn lists_by_value(title: &str, seed: u64, calls: &Calls) {
+    lists(title, seed, calls.turns, |rng, machine, cover| {
+        let left = |m: &mut Machine, call: &Call| by_value(m, call, calls);
         run_left(rng, machine, left, cover)
     });
+}
+
+#[test]
+fn model() {
+    lists_by_value("model lists", 41, &MODEL);
 }
 
 #[test]
 fn library() {
-    let turns: [Turn; 2] = [proved::forward, proved::back];
-    let batches: [BatchCall; 2] = [proved::forward_batch, proved::back_batch];
-    lists("library lists", 42, turns, |rng, machine, cover| {
-        let left = |m: &mut Machine, call| by_value(m, call, turns, batches);
-        run_left(rng, machine, left, cover)
-    });
+    lists_by_value("library lists", 42, &LIBRARY);
 }
 
 mod bench {
-    use super::proved::{self, Bench};
+    use super::proved::Bench;
     use super::*;
 
     /// Makes one call on the bench and shows its record in the machine.
-    fn on_bench(bench: &mut Bench, machine: &mut Machine, call: Call) -> Made {
+    fn on_bench(bench: &mut Bench, machine: &mut Machine, call: &Call) -> Gave {
         let (mem, table) = (&mut machine.mem, &machine.table);
-        let single = |refusal| (u32::from(refusal == 0), refusal);
-        let (turns, refusal) = match call {
-            Call::Single(Way::Forward) => single(bench.forward(mem, table)),
-            Call::Single(Way::Back) => single(bench.back(mem, table)),
-            Call::Batch(Way::Forward, n) => bench.forward_batch(n, mem, table),
-            Call::Batch(Way::Back, n) => bench.back_batch(n, mem, table),
+        let gave = match call {
+            Call::Samples(given, list) => wheeled(bench.samples(*given, list, mem, table)),
+            Call::Single(way) => {
+                let refusal = match way {
+                    Way::Forward => bench.forward(mem, table),
+                    Way::Back => bench.back(mem, table),
+                };
+                Gave::one_way(*way, u32::from(refusal == 0), refusal)
+            }
+            Call::Batch(way, n) => {
+                let (turns, refusal) = match way {
+                    Way::Forward => bench.forward_batch(*n, mem, table),
+                    Way::Back => bench.back_batch(*n, mem, table),
+                };
+                Gave::one_way(*way, turns, refusal)
+            }
         };
         machine.record = bench.record();
-        Made { turns, refusal }
+        gave
     }
 
     #[test]
     fn library() {
-        let turns: [Turn; 2] = [proved::forward, proved::back];
-        lists("bench lists", 43, turns, |rng, machine, cover| {
+        lists("bench lists", 43, LIBRARY.turns, |rng, machine, cover| {
             let mut bench = Bench::new(machine.record);
-            let left = |m: &mut Machine, call| on_bench(&mut bench, m, call);
+            let left = |m: &mut Machine, call: &Call| on_bench(&mut bench, m, call);
             run_left(rng, machine, left, cover)
         });
     }

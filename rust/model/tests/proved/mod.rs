@@ -3,6 +3,7 @@
 
 use crank::calls;
 use crank_model::machine::{Batch, Record};
+use crank_model::wheel::Wheeled;
 
 fn given(r: Record) -> crank::Record {
     crank::Record {
@@ -56,6 +57,18 @@ pub fn back_batch(r: Record, n: u32, mem: &mut [u32], table: &[u32]) -> Batch {
     batch(calls::back_batch(given(r), n, mem, table))
 }
 
+pub fn samples(r: Record, before: u8, list: &[u8], mem: &mut [u32], table: &[u32]) -> Wheeled {
+    let wheeled = calls::samples(given(r), before, list, mem, table);
+    Wheeled {
+        forward: wheeled.forward,
+        back: wheeled.back,
+        refused: wheeled.refused,
+        last: wheeled.last,
+        refusal: wheeled.refusal,
+        record: got(wheeled.state),
+    }
+}
+
 pub fn load(file: &[u8], mem: &mut [u32], table: &mut [u32]) -> (u32, Record) {
     let loaded = calls::load(file, mem, table);
     (loaded.refusal, got(loaded.state))
@@ -102,5 +115,18 @@ impl Bench {
     pub fn back_batch(&mut self, n: u32, mem: &mut [u32], table: &[u32]) -> (u32, u32) {
         let made = self.0.back_batch(n, mem, table);
         (made.turns, made.refusal)
+    }
+
+    /// The answer, with the record that the bench then has.
+    pub fn samples(&mut self, before: u8, list: &[u8], mem: &mut [u32], table: &[u32]) -> Wheeled {
+        let sampled = self.0.samples(before, list, mem, table);
+        Wheeled {
+            forward: sampled.forward,
+            back: sampled.back,
+            refused: sampled.refused,
+            last: sampled.last,
+            refusal: sampled.refusal,
+            record: self.record(),
+        }
     }
 }

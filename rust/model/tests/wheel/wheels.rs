@@ -1,0 +1,116 @@
+//! Random wheels on machines of every kind, whole and damaged.
+
+use crank_model::cover::Cover;
+use crank_model::damage::DAMAGES;
+use crank_model::generate::{for_run, for_turn, noise};
+use crank_model::machine::sizes_fit;
+use crank_model::rng::{rounds, Rng};
+use crank_model::state::{Machine, WAYS};
+use crank_model::structured::running;
+use crank_model::walks::{random_samples, walk};
+
+use super::{one_wheel, CASES};
+
+#[test]
+fn long() {
+    let mut rng = Rng::new(61);
+    let mut cover = Cover::default();
+    for _ in 0..rounds(6_000) {
+        let way = rng.pick(&WAYS);
+        let mut machine = for_run(&mut rng, way);
+        let (given, samples) = random_samples(&mut rng, 1_000);
+        one_wheel(&mut machine, given, &samples, &mut cover);
+    }
+    cover.summary("long wheels");
+    cover.demand_turns();
+    cover.demand(&CASES);
+}
+
+/// Machines for one turn, half of them damaged, and noise.
+#[test]
+fn short() {
+    let mut rng = Rng::new(62);
+    let mut cover = Cover::default();
+    for round in 0..rounds(100_000) {
+        let mut machine = match round % 16 {
+            0 => noise(&mut rng),
+            _ => for_turn(&mut rng, WAYS[round as usize % 2]),
+        };
+        let (given, samples) = random_samples(&mut rng, 8);
+        one_wheel(&mut machine, given, &samples, &mut cover);
+    }
+    cover.summary("short wheels");
+    cover.demand_turns();
+    cover.demand(&CASES);
+}
+
+/// Each kind of damage to a program in its run.
+#[test]
+fn damaged() {
+    let mut rng = Rng::new(63);
+    let mut cover = Cover::default();
+    for _ in 0..rounds(1_500) {
+        for (name, damage) in DAMAGES {
+            let start = running(&mut rng, 500);
+            let mut machine = start.clone();
+            damage(&mut rng, &mut machine);
+            if machine != start {
+                cover.count(name);
+            }
+            let (given, samples) = random_samples(&mut rng, 150);
+            one_wheel(&mut machine, given, &samples, &mut cover);
+        }
+    }
+    cover.summary("damaged machines");
+    cover.demand(&DAMAGES.map(|(name, _)| name));
+    cover.demand(&CASES);
+}
+
+/// Sizes out of range or lent slices too short, one at a time.
+fn wrong_sizes(good: &Machine) -> [Machine; 9] {
+    let with = |change: fn(&mut Machine)| {
+        let mut machine = good.clone();
+        change(&mut machine);
+        machine
+    };
+    [
+        with(|machine| machine.record.k = 0),
+        with(|machine| machine.record.k = machine.record.m + 1),
+        with(|machine| machine.record.m = 0),
+        with(|machine| machine.record.m = 8_193),
+        with(|machine| machine.record.m = u32::MAX),
+        with(|machine| machine.record.n = 512),
+        with(|machine| machine.record.n = u32::MAX),
+        with(|machine| machine.mem.truncate(machine.record.m as usize - 1)),
+        with(|machine| machine.table.truncate(9 * machine.record.n as usize - 1)),
+    ]
+}
+
+/// With wrong sizes each sample that moves counts one refused turn, and an
+/// equal one none; the call itself isn't refused.
+#[test]
+fn sizes() {
+    let mut rng = Rng::new(64);
+    let mut cover = Cover::default();
+    for _ in 0..rounds(100) {
+        let good = running(&mut rng, 100);
+        let given = rng.below(4) as u8;
+        let samples = walk(&mut rng, given, 60);
+        let before = [&[given][..], &samples].concat();
+        let moving = before.windows(2).filter(|two| two[0] != two[1]).count();
+        for start in wrong_sizes(&good) {
+            assert!(!sizes_fit(&start.record, &start.mem, &start.table));
+            let mut machine = start.clone();
+            let answer = one_wheel(&mut machine, given, &samples, &mut cover);
+            assert_eq!((answer.forward, answer.back), (0, 0));
+            assert_eq!(answer.refused, moving as u64);
+            assert_eq!(
+                (answer.last, answer.refusal),
+                (before[samples.len()].into(), 0)
+            );
+            assert_eq!(machine, start);
+        }
+    }
+    cover.summary("wrong sizes");
+    cover.demand(&["equal sample", "bounce", "refused turn"]);
+}
