@@ -1,9 +1,9 @@
 /* The calls of the crank bench for C and C++: QINS on basis states, forward and back.
  *
- * Link libcapi.a for the turns, batches and images, libsession.a for the lesson bench, libprogram.a
- * for the crank program; each is complete, and one program may link all. docs/CALLS.md says how they
- * are built, docs/MANUAL.md what the machine does and, in section 9, what each refusal means. A
- * refusal of 0 is none.
+ * Link libcapi.a for the turns, batches, samples and images, libsession.a for the lesson bench,
+ * libprogram.a for the crank program; each is complete, and one program may link all. docs/CALLS.md
+ * says how they are built, docs/MANUAL.md what the machine does and, in section 9, what each refusal
+ * means. A refusal of 0 is none.
  *
  * A lent slice is a pointer and then its length in elements. The pointer is never null, not even
  * for length 0, and what a call may write overlaps nothing else that is lent to it. That apart,
@@ -47,6 +47,16 @@ typedef struct Batch {
     Record state; /* the record after these turns */
 } Batch;
 
+/* What encoder samples come to. */
+typedef struct Wheeled {
+    uint64_t forward; /* turns accepted forward */
+    uint64_t back;    /* turns accepted back */
+    uint64_t refused; /* turns that the machine refused */
+    uint32_t last;    /* the last sample before any 19 or 20; the given one if there is none */
+    uint32_t refusal; /* 19 or 20; 0 where all samples were taken */
+    Record state;     /* the record after the accepted turns */
+} Wheeled;
+
 /* What a load answers. */
 typedef struct Loaded {
     uint32_t refusal;
@@ -70,23 +80,37 @@ typedef struct Cranked {
     uint32_t refusal;
 } Cranked;
 
+/* What encoder samples come to on the lesson bench. */
+typedef struct Sampled {
+    uint64_t forward; /* turns accepted forward */
+    uint64_t back;    /* turns accepted back */
+    uint64_t refused; /* turns that the machine refused */
+    uint32_t last;    /* as in Wheeled */
+    uint32_t refusal;
+} Sampled;
+
 CRANK_LAYOUT(sizeof(Record) == 84, "Record: 21 words");
 CRANK_LAYOUT(offsetof(Record, qifv) == 64, "Record: registers first");
 CRANK_LAYOUT(sizeof(Turned) == 88, "Turned: 22 words");
 CRANK_LAYOUT(offsetof(Turned, state) == 4, "Turned: record last");
 CRANK_LAYOUT(sizeof(Batch) == 92, "Batch: 23 words");
 CRANK_LAYOUT(offsetof(Batch, state) == 8, "Batch: record last");
+CRANK_LAYOUT(sizeof(Wheeled) == 120, "Wheeled: 29 words, and one to fill up");
+CRANK_LAYOUT(offsetof(Wheeled, last) == 24, "Wheeled: counts first");
+CRANK_LAYOUT(offsetof(Wheeled, state) == 32, "Wheeled: record last");
 CRANK_LAYOUT(sizeof(Loaded) == 88, "Loaded: 22 words");
 CRANK_LAYOUT(offsetof(Loaded, state) == 4, "Loaded: record last");
 CRANK_LAYOUT(sizeof(Checked) == 8, "Checked: 2 words");
 CRANK_LAYOUT(sizeof(Bench) == 84, "Bench: a record");
 CRANK_LAYOUT(sizeof(Cranked) == 8, "Cranked: 2 words");
+CRANK_LAYOUT(sizeof(Sampled) == 32, "Sampled: 8 words");
+CRANK_LAYOUT(offsetof(Sampled, last) == 24, "Sampled: counts first");
 
-/* ---- Turns and batches: libcapi.a ----
+/* ---- Turns, batches and samples: libcapi.a ----
  *
- * A call takes the record by value and answers with the new one. The refusal is 10 where k, m or n
- * of the record is out of range, mem is shorter than m words or table than 9 * n. Longer ones may
- * be lent: the excess is never touched. Only data words of mem change, and nothing writes the
+ * A call takes the record by value and answers with the new one. A turn is refused by 10 where k, m
+ * or n of the record is out of range, mem is shorter than m words or table than 9 * n. Longer ones
+ * may be lent: the excess is never touched. Only data words of mem change, and nothing writes the
  * table. A batch of 0 turns makes none and answers refusal 0, whatever the sizes are.
  */
 
@@ -114,6 +138,15 @@ Batch crank_forward_batch(Record r, uint32_t n, uint32_t *mem, size_t mem_len,
 Batch crank_back_batch(Record r, uint32_t n, uint32_t *mem, size_t mem_len,
                        const uint32_t *table, size_t table_len);
 
+/* Turns as encoder samples say, a byte each, 0 to 3, in the forward cycle 0, 1, 3, 2, 0; given is
+ * the sample before the first. An equal sample turns nothing, a step along the cycle turns forward,
+ * a step against it back. A turn that is refused, by whatever number, is counted, and the samples go
+ * on. Refusals: 20 where a sample or given is above 3, 19 where a sample is two steps from the one
+ * before; found sample by sample, 20 first, given before any. What stands behind the first is not
+ * looked at. Record and mem are as after the accepted turns, with a refusal too. */
+Wheeled crank_samples(Record r, uint8_t given, const uint8_t *samples, size_t samples_len,
+                      uint32_t *mem, size_t mem_len, const uint32_t *table, size_t table_len);
+
 /* ---- Images: libcapi.a ---- */
 
 /* Reads the image at the end of the file, behind any preface: fills the first m words of mem and
@@ -139,8 +172,8 @@ Checked crank_check(Record r, const uint32_t *mem, size_t mem_len,
 
 /* ---- The lesson bench: libsession.a ----
  *
- * The turns and batches above with the record in *b, which each call leaves as the record that the
- * call by value would have answered. mem and table are lent as there.
+ * The turns, batches and samples above with the record in *b, which each call leaves as the record
+ * that the call by value would have answered. mem and table are lent as there.
  */
 
 /* One turn; answers its refusal. Refused: *b and mem are as they were. */
@@ -155,6 +188,11 @@ Cranked bench_forward_batch(Bench *b, uint32_t n, uint32_t *mem, size_t mem_len,
                             const uint32_t *table, size_t table_len);
 Cranked bench_back_batch(Bench *b, uint32_t n, uint32_t *mem, size_t mem_len,
                          const uint32_t *table, size_t table_len);
+
+/* Turns as encoder samples say, by the rules of crank_samples: *b and mem are as after the accepted
+ * turns, with a refusal too. */
+Sampled bench_samples(Bench *b, uint8_t given, const uint8_t *samples, size_t samples_len,
+                      uint32_t *mem, size_t mem_len, const uint32_t *table, size_t table_len);
 
 /* ---- The crank program: libprogram.a ---- */
 

@@ -1,6 +1,7 @@
 /* Images through every call of crank.h: each is loaded, turned forward until it is refused and back
- * again, in single turns and in batches, by value and on the lesson bench, and must then be what it
- * was. After that come calls that must be refused, and must leave everything as it was.
+ * again, in single turns, in batches and by samples, by value and on the lesson bench, and must then
+ * be what it was. After that come calls that must be refused, and must leave everything as it was,
+ * but for samples, whose turns before the refused one stand.
  *
  * usage: roundtrip IMAGE...
  *
@@ -24,6 +25,7 @@ enum {
     PREFACE = 13, /* not whole words, so a preface counted in words is noticed */
     EXCESS = 10, /* lent beyond what is needed; room for one node more than there may be */
     MAX_TURNS = 1000000,
+    BEYOND = 3, /* steps of the wheel that are refused at an end of the run */
     NOISE = 0xA5 /* what lent bytes hold before a call */
 };
 
@@ -46,7 +48,7 @@ typedef struct {
 static const char *image = "", *calls = "";
 
 /* What was covered. */
-static unsigned long turned[2], waited, refused[19], prefaced, empty;
+static unsigned long turned[2], waited, sampled, refused[21], prefaced, empty;
 
 static void demand(int holds, const char *what)
 {
@@ -167,6 +169,111 @@ static uint32_t until_refused(const Mode *mode, Machine *m, int way)
     expect_refused(mode, m, way, 12);
     turned[way] += made;
     return made;
+}
+
+/* ---- The calls that take samples ---- */
+
+static Sampled samples_by_value(Machine *m, uint8_t given, const uint8_t *samples, size_t length)
+{
+    Wheeled w = crank_samples(m->bench.state, given, samples, length,
+                              m->mem, m->mem_len, m->table, m->table_len);
+    m->bench.state = w.state;
+    return (Sampled){w.forward, w.back, w.refused, w.last, w.refusal};
+}
+
+static Sampled samples_on_bench(Machine *m, uint8_t given, const uint8_t *samples, size_t length)
+{
+    return bench_samples(&m->bench, given, samples, length,
+                         m->mem, m->mem_len, m->table, m->table_len);
+}
+
+typedef struct {
+    const char *name;
+    Sampled (*call)(Machine *m, uint8_t given, const uint8_t *samples, size_t length);
+} Wheel;
+
+static const Wheel WHEELS[] = {
+    {"samples by value", samples_by_value},
+    {"samples on the bench", samples_on_bench},
+};
+
+enum { WHEEL_COUNT = sizeof WHEELS / sizeof *WHEELS };
+
+/* Takes samples; they must come to this, and leave the machine so. */
+static void expect_samples(const Wheel *wheel, Machine *m, uint8_t given, const uint8_t *samples,
+                           size_t length, Sampled expected, const Machine *after)
+{
+    calls = wheel->name;
+    Sampled s = wheel->call(m, given, samples, length);
+    demand(s.forward == expected.forward && s.back == expected.back, "other accepted turns");
+    demand(s.refused == expected.refused, "other refused turns");
+    demand(s.last == expected.last, "another last sample");
+    demand(s.refusal == expected.refusal, "another refusal than expected");
+    demand(same(m, after), "leaves another state");
+    sampled += length;
+    refused[expected.refusal] += expected.refusal > 0;
+}
+
+/* The sample after so many steps from 0. */
+static uint8_t sample_after(size_t steps)
+{
+    static const uint8_t CYCLE[] = {0, 1, 3, 2};
+    return CYCLE[steps % 4];
+}
+
+/* From start to end and some steps beyond it, each sample twice, and all of them back. */
+static void wheel_there_and_back(const Machine *start, const Machine *end, uint32_t turns)
+{
+    static uint8_t there[2 * (MAX_TURNS + BEYOND)], back[sizeof there];
+    static Machine m;
+    const size_t steps = turns + BEYOND;
+    const uint8_t last = sample_after(steps);
+    for (size_t i = 0; i < 2 * steps; i++) {
+        there[i] = sample_after(1 + i / 2);
+        back[i] = sample_after(steps - 1 - i / 2);
+    }
+    for (size_t i = 0; i < WHEEL_COUNT; i++) {
+        m = *start;
+        expect_samples(&WHEELS[i], &m, 0, there, 2 * steps,
+                       (Sampled){.forward = turns, .refused = BEYOND, .last = last}, end);
+        expect_samples(&WHEELS[i], &m, last, back, 2 * steps,
+                       (Sampled){.back = turns, .refused = BEYOND, .last = 0}, start);
+    }
+}
+
+/* A sample two steps on, one above 3, and a given one above 3: the turn before stands, and nothing
+ * behind is looked at. */
+static void refused_samples(const Machine *start)
+{
+    static const uint8_t TWO_STEPS[] = {1, 1, 2, 4}, ABOVE[] = {1, 4, 0};
+    static Machine m, once;
+    once = *start;
+    demand(turn_by_value(&once, FORWARD, 1).refusal == 0, "no first turn");
+    for (size_t i = 0; i < WHEEL_COUNT; i++) {
+        m = *start;
+        expect_samples(&WHEELS[i], &m, 0, TWO_STEPS, sizeof TWO_STEPS,
+                       (Sampled){.forward = 1, .last = 1, .refusal = 19}, &once);
+        m = *start;
+        expect_samples(&WHEELS[i], &m, 0, ABOVE, sizeof ABOVE,
+                       (Sampled){.forward = 1, .last = 1, .refusal = 20}, &once);
+        m = *start;
+        expect_samples(&WHEELS[i], &m, 4, ABOVE, sizeof ABOVE,
+                       (Sampled){.last = 4, .refusal = 20}, start);
+        expect_samples(&WHEELS[i], &m, UINT8_MAX, ABOVE, 0,
+                       (Sampled){.last = UINT8_MAX, .refusal = 20}, start);
+    }
+}
+
+/* Where no turn can be made each step counts as refused, and an equal sample does not. */
+static void expect_no_step(const Machine *given)
+{
+    static const uint8_t STEPS[] = {1, 1, 3, 1};
+    static Machine m;
+    for (size_t i = 0; i < WHEEL_COUNT; i++) {
+        m = *given;
+        expect_samples(&WHEELS[i], &m, 0, STEPS, sizeof STEPS,
+                       (Sampled){.refused = 3, .last = 1}, given);
+    }
 }
 
 /* ---- Images ---- */
@@ -344,6 +451,7 @@ static void there_and_back(const Machine *start, const File *file)
         demand(same(&m, start), "comes back to another state");
         saves_as_file(&m, file);
     }
+    wheel_there_and_back(start, &end, turns);
     expect_no_turn(start);
     expect_no_turn(&end);
 }
@@ -440,6 +548,7 @@ static void refused_sizes(const Machine *start)
             expect_refused(&MODES[i], &m, BACK, 10);
         }
         expect_no_turn(&m);
+        expect_no_step(&m);
         expect_save_refused(&m, MAX_IMAGE, 10);
         expect_check(&m, 10, 0);
     }
@@ -477,17 +586,19 @@ static void examine(const char *name)
     prefaces(&start, &file);
     refused_sizes(&start);
     refused_contents(&start);
+    refused_samples(&start);
 }
 
 /* Fails where something was never met; else says what was. */
 static void report(int images)
 {
-    static const int MET[] = {1, 2, 3, 4, 5, 6, 7, 8, 9, 10, 12};
+    static const int MET[] = {1, 2, 3, 4, 5, 6, 7, 8, 9, 10, 12, 19, 20};
     unsigned long total = 0;
     image = "all images";
     calls = "coverage";
     demand(turned[FORWARD] > 0 && turned[BACK] > 0, "no turns were made");
     demand(waited > 0, "no image waits");
+    demand(sampled > 0, "no samples were taken");
     demand(prefaced > 0, "no preface was tried");
     demand(empty > 0, "no batch of 0 was tried");
     for (size_t i = 0; i < sizeof MET / sizeof *MET; i++) {
@@ -495,8 +606,8 @@ static void report(int images)
         total += refused[MET[i]];
     }
     printf("roundtrip: images %d; turns forward %lu, back %lu; single turns out of a wait %lu; "
-           "batches of 0 %lu; loads behind a preface %lu; calls refused %lu\n",
-           images, turned[FORWARD], turned[BACK], waited, empty, prefaced, total);
+           "batches of 0 %lu; samples %lu; loads behind a preface %lu; calls refused %lu\n",
+           images, turned[FORWARD], turned[BACK], waited, empty, sampled, prefaced, total);
 }
 
 int main(int count, char **names)

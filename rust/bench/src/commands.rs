@@ -4,11 +4,11 @@ use crate::desk::{Desk, Stretch};
 use crate::picture::picture;
 use crate::show;
 use crate::typed;
+use crate::wheel::{self, Samples};
 use crate::words::counted;
 use crank::{meaning, Call, Direction, Machine};
 use crank_assembler::files;
 use std::io::{self, Write};
-use std::path::Path;
 
 /// Why the commands don't simply go on.
 pub enum Stop {
@@ -33,6 +33,11 @@ impl From<io::Error> for Stop {
 
 type Done = Result<(), Stop>;
 
+/// Behind the table that `help` prints.
+const NUMBERS: &str = "\
+N, addresses and samples are decimal or hexadecimal with 0x; an address may be a label.
+SAMPLES are numbers with blanks between them, or @FILE: the bytes of that file.";
+
 /// A row of the table that `help` prints.
 struct Command {
     names: &'static [&'static str],
@@ -54,6 +59,8 @@ const COMMANDS: &[Command] = &[
         does: "turns back until one is refused" },
     Command { names: &["t", "to"], takes: "ADDRESS", run: to,
         does: "turns forward, at least one, until pc is ADDRESS" },
+    Command { names: &["wheel"], takes: "GIVEN [SAMPLES]", run: wheel,
+        does: "turns as encoder samples say; GIVEN is the one before them" },
     Command { names: &["w", "where"], takes: "", run: where_it_stands,
         does: "pc, br, node and wait, and the words around pc" },
     Command { names: &["regs"], takes: "", run: regs,
@@ -78,6 +85,9 @@ const COMMANDS: &[Command] = &[
         does: "ends; so does the end of the input" },
 ];
 
+/// The arguments that may have blanks in them: each takes the rest of the line.
+const WITH_BLANKS: [&str; 3] = ["FILE", "FILE.svg", "[SAMPLES]"];
+
 /// Runs what was typed; nothing if it is blank.
 ///
 /// # Errors
@@ -94,7 +104,7 @@ pub fn run(desk: &mut Desk, text: &str, out: &mut dyn Write) -> Done {
         return Err(format!("there is no command {name}; help lists them").into());
     };
     let takes: Vec<&str> = command.takes.split_whitespace().collect();
-    let arguments = arguments(command, rest.trim());
+    let arguments = arguments(&takes, rest);
     let needed = takes.iter().filter(|taken| !taken.starts_with('[')).count();
     if arguments.len() < needed {
         return Err(format!("{name} needs {}", command.takes).into());
@@ -106,15 +116,19 @@ pub fn run(desk: &mut Desk, text: &str, out: &mut dyn Write) -> Done {
     (command.run)(desk, &arguments, out)
 }
 
-/// What stands behind a command's name; the name of a file may have blanks in it.
-fn arguments<'a>(command: &Command, rest: &'a str) -> Vec<&'a str> {
-    if command.takes.starts_with("FILE") && !rest.is_empty() {
-        let quoted = rest
-            .strip_prefix('"')
-            .and_then(|name| name.strip_suffix('"'));
-        return vec![quoted.unwrap_or(rest)];
+/// What stands behind the name of a command that takes these.
+fn arguments<'a>(takes: &[&str], rest: &'a str) -> Vec<&'a str> {
+    let (mut found, mut rest) = (Vec::new(), rest.trim());
+    while !rest.is_empty() {
+        let end = match takes.get(found.len()) {
+            Some(taken) if WITH_BLANKS.contains(taken) => rest.len(),
+            _ => rest.find(char::is_whitespace).unwrap_or(rest.len()),
+        };
+        let (argument, behind) = rest.split_at(end);
+        found.push(argument);
+        rest = behind.trim_start();
     }
-    rest.split_whitespace().collect()
+    found
 }
 
 /// The table of the commands.
@@ -127,10 +141,7 @@ pub fn list(out: &mut dyn Write) -> io::Result<()> {
         let form = format!("{} {}", row.names.join(", "), row.takes);
         writeln!(out, "  {form:21}  {}", row.does)?;
     }
-    writeln!(
-        out,
-        "N and addresses are decimal or hexadecimal with 0x; an address may be a label."
-    )
+    writeln!(out, "{NUMBERS}")
 }
 
 /// Turns, then says what they came to.
@@ -169,6 +180,18 @@ fn to(desk: &mut Desk, arguments: &[&str], out: &mut dyn Write) -> Done {
     turn(desk, out, |desk| desk.turns_to(address))
 }
 
+fn wheel(desk: &mut Desk, arguments: &[&str], out: &mut dyn Write) -> Done {
+    let given = typed::sample(arguments[0])?;
+    let mut samples = Samples::typed(arguments.get(1).copied().unwrap_or_default())?;
+    let before = desk.machine.clone();
+    let made = wheel::turn(desk, given, &mut samples);
+    show::wheel(out, &made, &before, desk)?;
+    match made.end {
+        wheel::End::Unread(line) => Err(line.into()),
+        _ => Ok(()),
+    }
+}
+
 fn where_it_stands(desk: &mut Desk, _: &[&str], out: &mut dyn Write) -> Done {
     Ok(show::place_in_code(out, desk)?)
 }
@@ -198,7 +221,7 @@ fn table(desk: &mut Desk, _: &[&str], out: &mut dyn Write) -> Done {
 }
 
 fn draw(desk: &mut Desk, arguments: &[&str], out: &mut dyn Write) -> Done {
-    let path = Path::new(arguments[0]);
+    let path = typed::file_name(arguments[0]);
     let name = files::shown(path);
     if files::is_source(path) {
         return Err(format!("{name}: a picture can't be drawn over a source").into());
@@ -228,7 +251,7 @@ fn counts(desk: &mut Desk, _: &[&str], out: &mut dyn Write) -> Done {
 }
 
 fn save(desk: &mut Desk, arguments: &[&str], out: &mut dyn Write) -> Done {
-    let path = Path::new(arguments[0]);
+    let path = typed::file_name(arguments[0]);
     let name = files::shown(path);
     if files::is_source(path) {
         return Err(format!("{name}: an image can't be saved as a source").into());

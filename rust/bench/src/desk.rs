@@ -3,11 +3,12 @@
 use crate::exercise::Exercise;
 use crate::interrupt;
 use crate::terminal::Progress;
+use crank::calls::Sampled;
 use crank::{Direction, Machine, Made, PC};
 use std::fmt;
 
-/// The turns between two looks at Ctrl-C.
-const CHUNK: u64 = 100_000;
+/// The turns or samples between two looks at Ctrl-C.
+pub const CHUNK: u64 = 100_000;
 
 /// The accepted turns, as they are handed in.
 #[derive(Clone, Copy, Default)]
@@ -77,6 +78,14 @@ impl Desk {
         })
     }
 
+    /// Turns as these samples say, `given` being the one before them.
+    pub fn samples(&mut self, given: u8, samples: &[u8]) -> Sampled {
+        let sampled = self.machine.samples(given, samples);
+        self.counts.forward += sampled.forward;
+        self.counts.back += sampled.back;
+        sampled
+    }
+
     /// Chunks of turns until `count` are made, one is refused, a chunk says that it is there, or
     /// Ctrl-C.
     fn stretch(
@@ -100,7 +109,7 @@ impl Desk {
             if interrupt::raised() {
                 break End::Stopped;
             }
-            progress.show(|| progress_text(turns));
+            progress.show(|| progress_text(turns, "turns"));
         };
         match direction {
             Direction::Forward => self.counts.forward += turns,
@@ -134,10 +143,10 @@ fn turns_to(machine: &mut Machine, count: u64, address: u32) -> (Made, bool) {
 }
 
 /// Ctrl-C stops a run only where commands are typed.
-fn progress_text(turns: u64) -> String {
+pub fn progress_text(count: u64, noun: &str) -> String {
     let stops = match interrupt::installed() {
         true => "; Ctrl-C stops ",
         false => "",
     };
-    format!("{turns} turns{stops}")
+    format!("{count} {noun}{stops}")
 }

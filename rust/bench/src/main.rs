@@ -13,6 +13,7 @@ mod session;
 mod show;
 mod terminal;
 mod typed;
+mod wheel;
 mod words;
 
 use std::env;

@@ -2,8 +2,9 @@
 
 use crate::desk::{Desk, End, Stretch};
 use crate::exercise::Exercise;
+use crate::wheel::{self, Wheel};
 use crate::words::{counted, instruction, way, word};
-use crank::{meaning, Machine, BR, NODE_FIELDS, NODE_WORDS, PC, REGISTERS};
+use crank::{meaning, Call, Machine, BR, NODE_FIELDS, NODE_WORDS, PC, REGISTERS};
 use std::collections::BTreeMap;
 use std::io::{self, Write};
 use std::ops::RangeInclusive;
@@ -168,6 +169,29 @@ pub fn stretch(
             }
             writeln!(out, "{turns} {way}, then refused by {refusal}: {why}")?;
         }
+    }
+    changes(out, before, desk)
+}
+
+/// What samples came to, and what their turns changed.
+pub fn wheel(out: &mut dyn Write, wheel: &Wheel, before: &Machine, desk: &Desk) -> io::Result<()> {
+    let sampled = &wheel.sampled;
+    if let wheel::End::Stopped | wheel::End::Unread(_) = wheel.end {
+        write!(out, "stopped after {}: ", counted(wheel.taken, "sample"))?;
+    }
+    write!(out, "{} forward, ", counted(sampled.forward, "turn"))?;
+    write!(out, "{} back, {} refused; ", sampled.back, sampled.refused)?;
+    writeln!(out, "last sample {}", sampled.last)?;
+    if let wheel::End::Refused { sample, place } = wheel.end {
+        let which = match place {
+            0 => "the given sample".to_string(),
+            _ => format!("sample {place}"),
+        };
+        let (refusal, why) = (sampled.refusal, meaning(sampled.refusal, Call::Samples));
+        writeln!(
+            out,
+            "refused by {refusal} at {which}, which is {sample}: {why}"
+        )?;
     }
     changes(out, before, desk)
 }

@@ -1,6 +1,7 @@
 //! What is typed: commands cut into words, and numbers.
 
 use crate::exercise::Exercise;
+use std::path::Path;
 
 /// The most characters of what was typed that a fault repeats.
 const REPEATED: usize = 40;
@@ -24,6 +25,24 @@ pub fn number(text: &str, most: u64) -> Result<u64, String> {
         Ok(value) if value <= most => Ok(value),
         _ => Err(format!("{} is over {most}", quoted(text))),
     }
+}
+
+/// A sample: any byte, since the call itself says which it takes.
+///
+/// # Errors
+///
+/// A line that says what is wrong with it.
+pub fn sample(text: &str) -> Result<u8, String> {
+    Ok(number(text, u64::from(u8::MAX))? as u8)
+}
+
+/// A file's name, which may stand in quotation marks.
+pub fn file_name(text: &str) -> &Path {
+    let name = text.trim();
+    let inside = name
+        .strip_prefix('"')
+        .and_then(|name| name.strip_suffix('"'));
+    Path::new(inside.unwrap_or(name))
 }
 
 /// An address: a number or a label of the source.

@@ -70,11 +70,10 @@ fn stop(terminal: &mut Terminal, command: &str) -> u64 {
     turns
 }
 
-/// The endless exercise, opened in a folder of its own.
-fn endless(folder: &str) -> Terminal {
-    let folder = scratch(folder);
+/// The endless exercise, opened in this folder.
+fn endless(folder: &Path) -> Terminal {
     fs::write(folder.join("endless.qasm"), ENDLESS).expect("a source");
-    let mut terminal = bench(&folder, &["endless.qasm"]);
+    let mut terminal = bench(folder, &["endless.qasm"]);
     let (greeting, _) = terminal.prompt();
     let want = "endless.qasm: K 8, M 9, N 0; pc 0, at start\nhelp lists the commands\n> ";
     assert_eq!(greeting, want);
@@ -88,7 +87,7 @@ fn state(terminal: &mut Terminal) -> String {
 
 #[test]
 fn ctrl_c_stops_a_run_with_exact_counts() {
-    let mut terminal = endless("stops");
+    let mut terminal = endless(&scratch("stops"));
     let before = state(&mut terminal);
     let turns = stop(&mut terminal, "run");
     let counts = ask(&mut terminal, "counts");
@@ -109,7 +108,7 @@ fn ctrl_c_stops_a_run_with_exact_counts() {
 /// By single turns, to an address that is not reached.
 #[test]
 fn ctrl_c_stops_on_the_way_to_an_address() {
-    let mut terminal = endless("way");
+    let mut terminal = endless(&scratch("way"));
     let before = state(&mut terminal);
     let turns = stop(&mut terminal, "to 7");
     let rewound = ask(&mut terminal, "rewind");
@@ -119,6 +118,51 @@ fn ctrl_c_stops_on_the_way_to_an_address() {
     println!("to: stopped after {turns} turns, and turned back");
     terminal.press("q\n");
     assert!(terminal.end().1.success());
+}
+
+/// Steps forward, that take about a second.
+const STEPS: u64 = 20_000_000;
+/// Samples that take much longer; behind the steps they are 0, and need no room on the disk.
+const SAMPLES: u64 = 1 << 36;
+const WHEEL_PROGRESS: &str = " samples; Ctrl-C stops ";
+
+/// The samples and the turns in `stopped after N samples: M turns forward, ...`.
+fn stopped_wheel(answer: &str) -> (u64, u64) {
+    let (_, said) = answer.split_once("\x1b[Kstopped after ").expect(answer);
+    let (samples, said) = said.split_once(" samples: ").expect(answer);
+    let (turns, said) = said.split_once(" turns forward, ").expect(answer);
+    let rest = "0 back, 0 refused; last sample 0\n";
+    assert!(said.starts_with(rest), "{answer}");
+    (
+        samples.parse().expect("a number"),
+        turns.parse().expect("a number"),
+    )
+}
+
+#[test]
+fn ctrl_c_stops_the_wheel_with_exact_counts() {
+    let folder = scratch("wheel");
+    let path = folder.join("long samples");
+    fs::write(&path, [1, 3, 2, 0].repeat(STEPS as usize / 4)).expect("samples");
+    let file = fs::OpenOptions::new().write(true).open(&path);
+    file.and_then(|file| file.set_len(SAMPLES)).expect("more");
+    let mut terminal = endless(&folder);
+    let before = state(&mut terminal);
+    terminal.press("wheel 0 @long samples; save never.img\n");
+    terminal.wait(|new| new.ends_with(WHEEL_PROGRESS));
+    terminal.press(CTRL_C);
+    let (samples, turns) = stopped_wheel(&terminal.prompt().0);
+    assert_eq!(turns, samples.min(STEPS));
+    let counts = ask(&mut terminal, "c");
+    assert_eq!(counts, format!("forward {turns}, back 0, net {turns}\n"));
+    let back = ask(&mut terminal, &format!("b {turns}"));
+    assert!(back.contains(&format!("{turns} turns back\n")), "{back}");
+    assert_eq!(state(&mut terminal), before);
+    println!("wheel: stopped after {samples} samples, and turned back {turns} turns");
+    terminal.press("q\n");
+    assert!(terminal.end().1.success());
+    assert!(!folder.join("never.img").exists());
+    fs::remove_file(path).expect("the samples");
 }
 
 #[test]
@@ -233,7 +277,7 @@ fn no_progress_in_a_pipe() {
 /// What stands behind a run that was stopped is not obeyed: it was meant for its end.
 #[test]
 fn ctrl_c_drops_the_rest_of_the_line() {
-    let mut terminal = endless("rest");
+    let mut terminal = endless(&scratch("rest"));
     let turns = stop(&mut terminal, "run; save never.img; q");
     let counts = ask(&mut terminal, "c; c");
     let line = format!("forward {turns}, back 0, net {turns}\n");

@@ -1,6 +1,6 @@
 //! A record together with the memory and the table that it is turned with.
 
-use crate::calls::{self, Batch, Checked};
+use crate::calls::{self, Batch, Checked, Sampled};
 use crate::{image_length, Record, MAX_IMAGE, MAX_NODES, MAX_WORDS, NODE_WORDS};
 
 /// The direction of a turn.
@@ -107,6 +107,20 @@ impl Machine {
         };
         self.record = batch.state;
         batch
+    }
+
+    /// Turns as encoder samples say, by the rules of [`calls::samples`]; the turns before a 19 or
+    /// 20 stand.
+    pub fn samples(&mut self, given: u8, samples: &[u8]) -> Sampled {
+        let wheeled = calls::samples(self.record, given, samples, &mut self.mem, &self.table);
+        self.record = wheeled.state;
+        Sampled {
+            forward: wheeled.forward,
+            back: wheeled.back,
+            refused: wheeled.refused,
+            last: wheeled.last,
+            refusal: wheeled.refusal,
+        }
     }
 
     /// The refusal that a turn would give; the machine stays as it is.

@@ -5,6 +5,7 @@
 pub enum Call {
     Forward,
     Back,
+    Samples,
     Load,
     Save,
     Check,
@@ -36,6 +37,8 @@ pub fn meaning(refusal: u32, call: Call) -> &'static str {
         (17, _) => "a node is not 1 to N, or a link of the table does not return",
         (18, Call::Back) => "the word to be undone is finish",
         (18, _) => "the next word would be start",
+        (19, _) => "the sample is two steps from the one before",
+        (20, _) => "the sample is above 3",
         _ => "unknown",
     }
 }

@@ -1,9 +1,10 @@
 //! `Machine` held against single turns by value, the lesson bench against the calls by value, and
 //! the refusals in words.
 
-use crank::calls::{self, Batch, Bench, Cranked, Turned};
+use crank::calls::{self, Batch, Bench, Cranked, Sampled, Turned};
 use crank::{meaning, Call, Direction, Machine, Made, Record, MAX_FILE};
 use std::fs;
+use std::iter;
 use std::path::Path;
 use std::sync::mpsc;
 use std::thread;
@@ -14,6 +15,8 @@ use Direction::{Back, Forward};
 const PATIENCE: Duration = Duration::from_secs(60);
 /// Of a number that no call gives.
 const UNKNOWN: &str = "unknown";
+/// Samples in the order of turns forward.
+const CYCLE: [u8; 4] = [0, 1, 3, 2];
 /// The place of words in the trailer, counted from the end of the file.
 const BACK_WORD: usize = 92;
 const M_WORD: usize = 88;
@@ -137,6 +140,13 @@ fn sizes_that_do_not_fit() {
             };
             assert_eq!(machine.turns(direction, 5), refused);
         }
+        // Every step is a turn that is refused, and none ends the samples.
+        let samples = machine.samples(0, &[1, 1, 3, 1, 0, 0]);
+        let refused = Sampled {
+            refused: 4,
+            ..no_turns(0)
+        };
+        assert_eq!(samples, refused);
         assert!(!machine.at_start() && !machine.at_finish());
         assert_eq!(machine, before);
     }
@@ -253,6 +263,148 @@ fn counts_over_32_bits() {
     println!("machine: {} counts up to 64 bits", counts.len());
 }
 
+/// What no samples come to.
+fn no_turns(given: u8) -> Sampled {
+    Sampled {
+        forward: 0,
+        back: 0,
+        refused: 0,
+        last: u32::from(given),
+        refusal: 0,
+    }
+}
+
+/// What samples come to, by single turns by value.
+fn by_single_turns(machine: &Machine, given: u8, samples: &[u8]) -> (Sampled, Machine) {
+    let place = |sample: u8| CYCLE.iter().position(|other| *other == sample);
+    let (mut machine, mut sum) = (machine.clone(), no_turns(given));
+    // The given one first, which is no step from itself.
+    for sample in iter::once(&given).chain(samples) {
+        let [Some(old), Some(new)] = [sum.last as u8, *sample].map(place) else {
+            sum.refusal = 20;
+            break;
+        };
+        let (call, count): (ByValue, _) = match (4 + new - old) % 4 {
+            0 => continue,
+            1 => (calls::forward, &mut sum.forward),
+            3 => (calls::back, &mut sum.back),
+            _ => {
+                sum.refusal = 19;
+                break;
+            }
+        };
+        let turned = call(machine.record, &mut machine.mem, &machine.table);
+        match turned.refusal {
+            0 => *count += 1,
+            _ => sum.refused += 1,
+        }
+        machine.record = turned.state;
+        sum.last = u32::from(*sample);
+    }
+    (sum, machine)
+}
+
+fn samples_as_single_turns(from: &Machine, given: u8, samples: &[u8]) {
+    let mut machine = from.clone();
+    let sampled = machine.samples(given, samples);
+    let want = by_single_turns(from, given, samples);
+    assert_eq!((sampled, machine), want, "{given}: {samples:?}");
+}
+
+/// Every list of 0 to 4 up to this length.
+fn short_lists(length: usize) -> Vec<Vec<u8>> {
+    let mut lists = vec![Vec::new()];
+    if length > 0 {
+        for list in short_lists(length - 1) {
+            lists.extend((0..=4).map(|sample| [list.as_slice(), &[sample]].concat()));
+        }
+    }
+    lists
+}
+
+/// Every pair of samples, and every short list, in every state of a run.
+#[test]
+fn lists_of_samples() {
+    let (states, _) = run(&short(), Forward);
+    let lists = short_lists(4);
+    for state in &states {
+        for given in 0..=255 {
+            for sample in 0..=255 {
+                samples_as_single_turns(state, given, &[sample]);
+            }
+        }
+        for given in 0..=4 {
+            for list in &lists {
+                samples_as_single_turns(state, given, list);
+            }
+        }
+    }
+    println!("machine: {} lists of samples", lists.len());
+    assert_eq!((lists.len(), states.len()), (1 + 5 + 25 + 125 + 625, 3));
+}
+
+/// Steps along the cycle from 0, each sample twice.
+fn steps(count: usize) -> Vec<u8> {
+    (1..=count).flat_map(|step| [CYCLE[step % 4]; 2]).collect()
+}
+
+/// By samples to the end of a run and three steps on, and back in the same way, then forward once.
+#[test]
+fn samples_there_and_back() {
+    let mut samples = 0;
+    for (name, _, mut machine) in examples() {
+        let (states, _) = run(&machine, Forward);
+        let turns = states.len() - 1;
+        let there = steps(turns + 3);
+        let back: Vec<u8> = there.iter().rev().copied().chain([0, 1]).collect();
+        let made = machine.samples(0, &there);
+        let want = Sampled {
+            forward: turns as u64,
+            refused: 3,
+            ..no_turns(CYCLE[(turns + 3) % 4])
+        };
+        assert_eq!((made, Some(&machine)), (want, states.last()), "{name}");
+        let made = machine.samples(made.last as u8, &back);
+        let want = Sampled {
+            forward: 1,
+            back: turns as u64,
+            refused: 3,
+            ..no_turns(1)
+        };
+        assert_eq!((made, &machine), (want, &states[1]), "{name}");
+        samples += there.len() + back.len();
+    }
+    println!("machine: {samples} samples there and back");
+    assert!(samples > 1_000);
+}
+
+/// Two calls, the second given the last sample of the first, are one, wherever the list is cut.
+#[test]
+fn samples_cut_in_two() {
+    let mut cuts = 0;
+    for (name, _, machine) in examples() {
+        let list = [steps(7).as_slice(), &[3, 1, 0, 2, 0, 0, 1, 2, 9]].concat();
+        let (want, end) = by_single_turns(&machine, 0, &list);
+        assert_eq!((want.refusal, want.last), (19, 1), "{name}");
+        for cut in 0..=list.len() - 2 {
+            let mut machine = machine.clone();
+            let first = machine.samples(0, &list[..cut]);
+            let second = machine.samples(first.last as u8, &list[cut..]);
+            let sum = Sampled {
+                forward: first.forward + second.forward,
+                back: first.back + second.back,
+                refused: first.refused + second.refused,
+                ..second
+            };
+            assert_eq!((first.refusal, sum), (0, want), "{name} cut at {cut}");
+            assert_eq!(machine, end, "{name} cut at {cut}");
+            cuts += 1;
+        }
+    }
+    println!("machine: {cuts} lists of samples cut in two");
+    assert!(cuts > 100);
+}
+
 #[test]
 fn directions() {
     assert_eq!((Forward.reverse(), Back.reverse()), (Back, Forward));
@@ -263,16 +415,17 @@ fn meanings() {
     let calls = [
         Call::Forward,
         Call::Back,
+        Call::Samples,
         Call::Load,
         Call::Save,
         Call::Check,
     ];
     for call in calls {
-        for refusal in 0..=18 {
+        for refusal in 0..=20 {
             let said = meaning(refusal, call);
             assert!(said != UNKNOWN && !said.is_empty(), "{refusal} of {call:?}");
         }
-        for refusal in [19, u32::MAX] {
+        for refusal in [21, u32::MAX] {
             assert_eq!(meaning(refusal, call), UNKNOWN, "{refusal} of {call:?}");
         }
     }
@@ -281,7 +434,7 @@ fn meanings() {
         let [forward, back] = [Call::Forward, Call::Back].map(|call| meaning(refusal, call));
         assert_ne!(forward, back, "{refusal}");
     }
-    println!("machine: 0 to 18 in words, for {} calls", calls.len());
+    println!("machine: 0 to 20 in words, for {} calls", calls.len());
 }
 
 type OnBench = fn(&mut Bench, &mut [u32], &[u32]) -> u32;
@@ -318,6 +471,23 @@ fn batch_on_bench(machine: &Machine, n: u32, on_bench: BatchOnBench, by_value: B
     assert_eq!(mem, other);
 }
 
+fn samples_on_bench(machine: &Machine, given: u8, samples: &[u8]) {
+    let (table, mut bench) = (
+        &machine.table,
+        Bench {
+            state: machine.record,
+        },
+    );
+    let [mut mem, mut other] = [machine.mem.clone(), machine.mem.clone()];
+    let sampled = bench.samples(given, samples, &mut mem, table);
+    let wheeled = calls::samples(machine.record, given, samples, &mut other, table);
+    let counts = [sampled.forward, sampled.back, sampled.refused];
+    assert_eq!(counts, [wheeled.forward, wheeled.back, wheeled.refused]);
+    let found = (sampled.last, sampled.refusal, bench.state);
+    assert_eq!(found, (wheeled.last, wheeled.refusal, wheeled.state));
+    assert_eq!(mem, other);
+}
+
 /// Each call of the lesson bench, in every state of the examples, against the call by value.
 #[test]
 fn lesson_bench() {
@@ -330,7 +500,17 @@ fn lesson_bench() {
                 batch_on_bench(&state, n, Bench::forward_batch, calls::forward_batch);
                 batch_on_bench(&state, n, Bench::back_batch, calls::back_batch);
             }
-            made += 10;
+            let lists: [(u8, &[u8]); 5] = [
+                (0, &[]),
+                (0, &[1, 1, 3, 2, 0, 2, 3]),
+                (1, &[0, 2, 3, 3, 0, 1]),
+                (2, &[3, 1, 4]),
+                (4, &[0]),
+            ];
+            for (given, samples) in lists {
+                samples_on_bench(&state, given, samples);
+            }
+            made += 15;
         }
     }
     println!("machine: {made} calls of the lesson bench");
