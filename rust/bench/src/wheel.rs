@@ -26,8 +26,10 @@ impl Samples {
     ///
     /// A line that says what is wrong with them.
     pub fn typed(text: &str) -> Result<Samples, String> {
-        if let Some(name) = text.strip_prefix('@') {
-            return Samples::open(typed::file_name(name));
+        match text.strip_prefix('@') {
+            Some("") => return Err("@ needs the name of a file behind it".to_string()),
+            Some(name) => return Samples::open(typed::file_name(name)),
+            None => {}
         }
         let numbers = text.split_whitespace().map(typed::sample);
         let bytes: Vec<u8> = numbers.collect::<Result<_, String>>()?;

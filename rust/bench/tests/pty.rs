@@ -123,7 +123,7 @@ fn ctrl_c_stops_on_the_way_to_an_address() {
 /// Steps forward, that take about a second.
 const STEPS: u64 = 20_000_000;
 /// Samples that take much longer; behind the steps they are 0, and need no room on the disk.
-const SAMPLES: u64 = 1 << 36;
+const SAMPLES: u64 = 1 << 33;
 const WHEEL_PROGRESS: &str = " samples; Ctrl-C stops ";
 
 /// The samples and the turns in `stopped after N samples: M turns forward, ...`.
