@@ -2,3 +2,4 @@ pub mod Turns
 pub mod Taken
 pub mod Loop
 pub mod Circle
+pub mod Cut

@@ -1,10 +1,34 @@
+-- What is claimed of the circle and of sample calls.
+use Prim.Native.Nat.{ℕ, _+_, _^_, _<_}
+use mathlib.Core.Path.{_≡_}
+use mathlib.Core.List.{List, _++_}
+use Rattle.machine.specs.declared.Record.{Record}
+use Rattle.wheel.specs.Wheel.{steps, WheelPromise}
+use Rattle.wheel.specs.declared.Wheeled.{Wheeled}
+
 -- The circle is document 02's forward cycle: 1 behind 0, 3 behind 1, 2 behind 3 and 0 behind 2 are one step; an equal sample
 -- is none; and one step against it is three along it. Proved in proofs/Circle.
-use Prim.Native.Nat.{ℕ, _^_, _<_}
-use mathlib.Core.Path.{_≡_}
-use Rattle.wheel.specs.Wheel.{steps}
-
 pub record Circle : Type 0 where
   pub cycle : (steps 0 1 ≡ 1) × (steps 1 3 ≡ 1) × (steps 3 2 ≡ 1) × (steps 2 0 ≡ 1)
   pub still : (s : ℕ) → s < 2 ^ 32 → steps s s ≡ 0
   pub against : (p s : ℕ) → p < 2 ^ 32 → s < 2 ^ 32 → steps p s ≡ 1 → steps s p ≡ 3
+
+-- the answers of two calls, one behind the other, as one
+abbrev pub joined : Wheeled → Wheeled → Wheeled
+joined a b =
+    record {
+      forward = a .forward + b .forward;
+      back = a .back + b .back;
+      refused = a .refused + b .refused;
+      last = b .last;
+      refusal = b .refusal;
+      state = b .state;
+    }
+
+-- A list may be cut: where the first call is not refused, a second one that is given its last sample, on what it left, comes
+-- with it to what one call of the whole list does. Proved in proofs/Cut.
+abbrev pub Cut : Type 0
+Cut =
+    (given : ℕ) (l m : List ℕ) (r : Record) (mem table : List ℕ) (a b : Wheeled) (mem′ mem″ : List ℕ)
+    → WheelPromise given l r mem table a mem′ → a .refusal ≡ 0 → WheelPromise (a .last) m (a .state) mem′ table b mem″
+    → WheelPromise given (l ++ m) r mem table (joined a b) mem″

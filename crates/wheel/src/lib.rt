@@ -1,6 +1,6 @@
 // The wheel: encoder samples, each of which makes one turn or none.
 ghost use mathlib.Core.Path.{_≡_};
-ghost use Prim.Native.Nat.{_+_, _<_, _≤_};
+ghost use Prim.Native.Nat.{_+_, _^_, _<_, _≤_};
 ghost use Rattle.word.specs.Word.{pick};
 ghost use Rattle.wheel.specs.Wheel.{place, steps, fault, turnBy, memoryBy, wheelOf, counted, taken, WheelPromise};
 use machine::Record;
@@ -72,7 +72,7 @@ fn turn_by(k: u32, r: Record, mem: &mut [u32], table: &[u32]) -> Turned
 
 // The counts have room: together they are at most the samples taken.
 fn count(k: u32, s: u32, t: Turned, w: Wheeled) -> Wheeled
-    requires { ⌜ w .forward + w .back + w .refused < 18446744073709551615 ⌝ }
+    requires { ⌜ w .forward + w .back + w .refused + 1 < 2 ^ 64 ⌝ }
     ensures { λ r. ⌜ r ≡ counted k s t w ⌝ }
 {
     let accepted = only_if(t.refusal == 0, 1);
@@ -88,7 +88,7 @@ fn count(k: u32, s: u32, t: Turned, w: Wheeled) -> Wheeled
 }
 
 fn take(s: u32, w: Wheeled, mem: &mut [u32], table: &[u32]) -> Wheeled
-    requires { ⌜ w .forward + w .back + w .refused < 18446744073709551615 ⌝ }
+    requires { ⌜ w .forward + w .back + w .refused + 1 < 2 ^ 64 ⌝ }
     ensures { λ r. ⌜ wheelOf r (now (mem .exit)) ≡ taken (now (table .entry)) s (wheelOf w (now (mem .entry))) ⌝ }
 {
     let n = fault_at(w.last, s);
