@@ -3,3 +3,4 @@ pub mod Taken
 pub mod Loop
 pub mod Circle
 pub mod Cut
+pub mod Alone

@@ -1,9 +1,11 @@
 -- What is claimed of the circle and of sample calls.
 use Prim.Native.Nat.{ℕ, _+_, _^_, _<_}
 use mathlib.Core.Path.{_≡_}
-use mathlib.Core.List.{List, _++_}
+use mathlib.Core.List.{List, [], _∷_, _++_}
+use lib.Dec.{eqb, ltb}
+use Rattle.word.specs.Word.{pick}
 use Rattle.machine.specs.declared.Record.{Record}
-use Rattle.wheel.specs.Wheel.{steps, WheelPromise}
+use Rattle.wheel.specs.Wheel.{steps, fault, WheelPromise}
 use Rattle.wheel.specs.declared.Wheeled.{Wheeled}
 
 -- The circle is document 02's forward cycle: 1 behind 0, 3 behind 1, 2 behind 3 and 0 behind 2 are one step; an equal sample
@@ -32,3 +34,14 @@ Cut =
     (given : ℕ) (l m : List ℕ) (r : Record) (mem table : List ℕ) (a b : Wheeled) (mem′ mem″ : List ℕ)
     → WheelPromise given l r mem table a mem′ → a .refusal ≡ 0 → WheelPromise (a .last) m (a .state) mem′ table b mem″
     → WheelPromise given (l ++ m) r mem table (joined a b) mem″
+
+-- the last sample of a list behind p, and the refusal that ends it
+unfoldable pub endOf : ℕ → List ℕ → ℕ × ℕ
+endOf p [] = (p, 0)
+endOf p (s ∷ rest) = pick (eqb (fault p s) 0) (endOf s rest) (p, fault p s)
+
+-- Both are told by the samples alone, whatever the machine is and refuses. Proved in proofs/Alone.
+abbrev pub SamplesAlone : Type 0
+SamplesAlone =
+    (given : ℕ) (l : List ℕ) (r : Record) (mem table : List ℕ) (a : Wheeled) (mem′ : List ℕ)
+    → WheelPromise given l r mem table a mem′ → (a .last, a .refusal) ≡ pick (ltb 3 given) (given, 20) (endOf given l)
