@@ -245,7 +245,7 @@ static void wheel_there_and_back(const Machine *start, const Machine *end, uint3
  * behind is looked at. */
 static void refused_samples(const Machine *start)
 {
-    static const uint8_t TWO_STEPS[] = {1, 1, 2, 4}, ABOVE[] = {1, 4, 0};
+    static const uint8_t TWO_STEPS[] = {0, 1, 1, 2, 4}, ABOVE[] = {1, 4, 0};
     static Machine m, once;
     once = *start;
     demand(turn_by_value(&once, FORWARD, 1).refusal == 0, "no first turn");
@@ -267,7 +267,7 @@ static void refused_samples(const Machine *start)
 /* Where no turn can be made each step counts as refused, and an equal sample does not. */
 static void expect_no_step(const Machine *given)
 {
-    static const uint8_t STEPS[] = {1, 1, 3, 1};
+    static const uint8_t STEPS[] = {0, 1, 1, 3, 1};
     static Machine m;
     for (size_t i = 0; i < WHEEL_COUNT; i++) {
         m = *given;

@@ -174,15 +174,15 @@ pub fn stretch(
 }
 
 /// What samples came to, and what their turns changed.
-pub fn wheel(out: &mut dyn Write, wheel: &Wheel, before: &Machine, desk: &Desk) -> io::Result<()> {
-    let sampled = &wheel.sampled;
-    if let wheel::End::Stopped | wheel::End::Unread(_) = wheel.end {
-        write!(out, "stopped after {}: ", counted(wheel.taken, "sample"))?;
+pub fn wheel(out: &mut dyn Write, made: &Wheel, before: &Machine, desk: &Desk) -> io::Result<()> {
+    let sampled = &made.sampled;
+    if let wheel::End::Stopped | wheel::End::Unread(_) = made.end {
+        write!(out, "stopped after {}: ", counted(made.taken, "sample"))?;
     }
     write!(out, "{} forward, ", counted(sampled.forward, "turn"))?;
     write!(out, "{} back, {} refused; ", sampled.back, sampled.refused)?;
     writeln!(out, "last sample {}", sampled.last)?;
-    if let wheel::End::Refused { sample, place } = wheel.end {
+    if let wheel::End::Refused { sample, place } = made.end {
         let which = match place {
             0 => "the given sample".to_string(),
             _ => format!("sample {place}"),

@@ -6,6 +6,8 @@ use std::time::{Duration, Instant};
 
 /// The most bytes of a line, so that an endless one ends.
 const MAX_LINE: usize = 1 << 20;
+/// The bytes of a line that a terminal keeps; it drops the others without a word.
+const KEPT: usize = 4095;
 /// A run is long from here on.
 const PATIENCE: Duration = Duration::from_millis(400);
 /// Between two looks at the progress.
@@ -63,11 +65,21 @@ pub fn read_line(input: &mut Input) -> io::Result<Line> {
             return Ok(Line::Bad(format!("a line of over {MAX_LINE} bytes")));
         }
         if ended || end.is_some() {
-            return Ok(match String::from_utf8(line) {
-                Ok(text) => Line::Text(text),
-                Err(_) => Line::Bad("the line is no text in UTF-8".to_string()),
-            });
+            return Ok(text_of(line));
         }
+    }
+}
+
+/// A whole line, if it came whole and is text.
+fn text_of(line: Vec<u8>) -> Line {
+    if line.len() >= KEPT && interrupt::installed() {
+        return Line::Bad(format!(
+            "a terminal cuts a line of {KEPT} bytes or more; a file may have more samples"
+        ));
+    }
+    match String::from_utf8(line) {
+        Ok(text) => Line::Text(text),
+        Err(_) => Line::Bad("the line is no text in UTF-8".to_string()),
     }
 }
 

@@ -26,10 +26,8 @@ impl Samples {
     ///
     /// A line that says what is wrong with them.
     pub fn typed(text: &str) -> Result<Samples, String> {
-        match text.strip_prefix('@') {
-            Some("") => return Err("@ needs the name of a file behind it".to_string()),
-            Some(name) => return Samples::open(typed::file_name(name)),
-            None => {}
+        if let Some(name) = text.strip_prefix('@') {
+            return Samples::open(typed::file_name(name));
         }
         let numbers = text.split_whitespace().map(typed::sample);
         let bytes: Vec<u8> = numbers.collect::<Result<_, String>>()?;
@@ -39,24 +37,27 @@ impl Samples {
         })
     }
 
-    /// A regular file only: Ctrl-C could not stop a read that waits for more.
+    /// At a terminal a regular file only: Ctrl-C could not stop a read that waits for more.
     fn open(path: &Path) -> Result<Samples, String> {
+        if path.as_os_str().is_empty() {
+            return Err("@ needs the name of a file behind it".to_string());
+        }
         let name = files::shown(path);
         let fault = |e: io::Error| format!("{name}: {}", files::reason(&e));
-        if !fs::metadata(path).map_err(fault)?.is_file() {
+        let kind = fs::metadata(path).map_err(fault)?;
+        if kind.is_dir() || interrupt::installed() && !kind.is_file() {
             return Err(format!("{name}: is no regular file"));
         }
         let bytes = Box::new(File::open(path).map_err(fault)?);
         Ok(Samples { name, bytes })
     }
 
-    /// The next ones: [`CHUNK`] of them, fewer at the end.
-    fn chunk(&mut self) -> Result<Vec<u8>, String> {
+    /// The next ones: [`CHUNK`] of them, fewer at the end; and what broke the reading off.
+    fn chunk(&mut self) -> (Vec<u8>, Option<String>) {
         let mut chunk = Vec::new();
-        match self.bytes.by_ref().take(CHUNK).read_to_end(&mut chunk) {
-            Ok(_) => Ok(chunk),
-            Err(e) => Err(format!("{}: {}", self.name, files::reason(&e))),
-        }
+        let read = self.bytes.by_ref().take(CHUNK).read_to_end(&mut chunk);
+        let fault = |e| format!("{}: {}", self.name, files::reason(&e));
+        (chunk, read.err().map(fault))
     }
 }
 
@@ -81,23 +82,40 @@ pub struct Wheel {
     pub end: End,
 }
 
-/// Turns by chunks of samples until all are taken, one is refused, or Ctrl-C.
+/// Turns as the samples say. The given one is looked at before any is read.
 pub fn turn(desk: &mut Desk, given: u8, samples: &mut Samples) -> Wheel {
+    let first = desk.samples(given, &[]);
+    if first.refusal != 0 {
+        let end = End::Refused {
+            sample: given,
+            place: 0,
+        };
+        return Wheel {
+            sampled: first,
+            taken: 0,
+            end,
+        };
+    }
+    by_chunks(desk, first, samples)
+}
+
+/// Turns on from what came before, until all samples are taken, one is refused, or Ctrl-C.
+fn by_chunks(desk: &mut Desk, mut sampled: Sampled, samples: &mut Samples) -> Wheel {
     interrupt::clear();
     let mut progress = Progress::new();
-    let (mut sampled, mut taken) = (desk.samples(given, &[]), 0);
+    let mut taken = 0;
     let end = loop {
-        let chunk = match samples.chunk() {
-            Ok(chunk) => chunk,
-            Err(line) => break End::Unread(line),
-        };
-        let given = sampled.last as u8;
-        sampled = sum(&sampled, desk.samples(given, &chunk));
+        let (chunk, fault) = samples.chunk();
+        let before = sampled.last as u8;
+        sampled = sum(&sampled, desk.samples(before, &chunk));
         if sampled.refusal != 0 {
-            break refused(given, &chunk, taken);
+            break refused(before, &chunk, taken);
         }
         let length = chunk.len() as u64;
         taken += length;
+        if let Some(line) = fault {
+            break End::Unread(line);
+        }
         if length < CHUNK {
             break End::Complete;
         }
@@ -123,17 +141,80 @@ fn sum(first: &Sampled, second: Sampled) -> Sampled {
     }
 }
 
-/// Which sample is refused, so many being taken before these. The list that ends with it is the
-/// shortest that is refused, by any machine: here by one without words.
-fn refused(given: u8, samples: &[u8], taken: u64) -> End {
+/// Which of these samples is refused, so many being taken before them. The list that ends with it is
+/// the shortest that is refused, by any machine: here by one without words.
+fn refused(before: u8, samples: &[u8], taken: u64) -> End {
     let mut machine = Machine::new(0, Vec::new(), Vec::new());
-    let lengths: Vec<usize> = (0..=samples.len()).collect();
-    let place = lengths.partition_point(|length| {
+    let lengths: Vec<usize> = (1..=samples.len()).collect();
+    let at = lengths.partition_point(|length| {
         let list = &samples[..*length];
-        machine.samples(given, list).refusal == 0
+        machine.samples(before, list).refusal == 0
     });
     End::Refused {
-        sample: place.checked_sub(1).map_or(given, |at| samples[at]),
-        place: taken + place as u64,
+        sample: samples[at],
+        place: taken + at as u64 + 1,
+    }
+}
+
+#[cfg(test)]
+mod tests {
+    use super::*;
+    use crate::exercise::Exercise;
+
+    /// Bytes, and then a fault where the end would be.
+    struct Broken(Cursor<Vec<u8>>);
+
+    impl Read for Broken {
+        fn read(&mut self, into: &mut [u8]) -> io::Result<usize> {
+            match self.0.read(into)? {
+                0 => Err(io::Error::other("broken off")),
+                length => Ok(length),
+            }
+        }
+    }
+
+    /// What samples come to where they can't be read on.
+    fn broken(given: u8, bytes: Vec<u8>) -> (Wheel, Desk) {
+        let path = concat!(env!("CARGO_MANIFEST_DIR"), "/../../examples/first.img");
+        let mut desk = Desk::new(Exercise::open(Path::new(path)).expect("an example"));
+        let mut samples = Samples {
+            name: "samples".to_string(),
+            bytes: Box::new(Broken(Cursor::new(bytes))),
+        };
+        (turn(&mut desk, given, &mut samples), desk)
+    }
+
+    #[test]
+    fn what_was_read_before_a_fault_is_turned() {
+        let chunk = CHUNK as usize;
+        for length in [0, 1, chunk - 1, chunk, chunk + 1, 2 * chunk + 7] {
+            let to_and_fro = [1, 0].into_iter().cycle().take(length).collect();
+            let (wheel, desk) = broken(0, to_and_fro);
+            assert_eq!(wheel.taken, length as u64);
+            assert!(matches!(wheel.end, End::Unread(line) if line.starts_with("samples: ")));
+            let (forward, back) = (wheel.sampled.forward, wheel.sampled.back);
+            assert_eq!(forward + back + wheel.sampled.refused, length as u64);
+            assert_eq!((desk.counts.forward, desk.counts.back), (forward, back));
+        }
+    }
+
+    #[test]
+    fn a_refused_sample_comes_before_a_fault_behind_it() {
+        let end = broken(0, vec![1, 2, 0]).0.end;
+        assert!(matches!(
+            end,
+            End::Refused {
+                sample: 2,
+                place: 2
+            }
+        ));
+        let end = broken(9, Vec::new()).0.end;
+        assert!(matches!(
+            end,
+            End::Refused {
+                sample: 9,
+                place: 0
+            }
+        ));
     }
 }

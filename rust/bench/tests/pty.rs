@@ -123,7 +123,7 @@ fn ctrl_c_stops_on_the_way_to_an_address() {
 /// Steps forward, that take about a second.
 const STEPS: u64 = 20_000_000;
 /// Samples that take much longer; behind the steps they are 0, and need no room on the disk.
-const SAMPLES: u64 = 1 << 33;
+const SAMPLES: u64 = 1 << 32;
 const WHEEL_PROGRESS: &str = " samples; Ctrl-C stops ";
 
 /// The samples and the turns in `stopped after N samples: M turns forward, ...`.
@@ -150,6 +150,8 @@ fn ctrl_c_stops_the_wheel_with_exact_counts() {
     let before = state(&mut terminal);
     terminal.press("wheel 0 @long samples; save never.img\n");
     terminal.wait(|new| new.ends_with(WHEEL_PROGRESS));
+    // It is open, and not to be left behind where something fails.
+    fs::remove_file(path).expect("the samples");
     terminal.press(CTRL_C);
     let (samples, turns) = stopped_wheel(&terminal.prompt().0);
     assert_eq!(turns, samples.min(STEPS));
@@ -162,7 +164,26 @@ fn ctrl_c_stops_the_wheel_with_exact_counts() {
     terminal.press("q\n");
     assert!(terminal.end().1.success());
     assert!(!folder.join("never.img").exists());
-    fs::remove_file(path).expect("the samples");
+}
+
+/// A terminal drops what is behind the bytes that it keeps: such a line is not obeyed.
+#[test]
+fn a_line_that_the_terminal_cuts_is_bad() {
+    let mut terminal = endless(&scratch("cut"));
+    let whole = format!("wheel 0{}", " 1 3 2 0".repeat(510));
+    assert_eq!(whole.len(), 4087);
+    let answer = ask(&mut terminal, &whole);
+    let turns = "2040 turns forward, 0 back, 0 refused; last sample 0\n";
+    assert!(answer.contains(turns), "{answer}");
+    for more in [8, 9, 1_000] {
+        let answer = ask(&mut terminal, &format!("{whole}{}", "0".repeat(more)));
+        let fault =
+            "bench: a terminal cuts a line of 4095 bytes or more; a file may have more samples\n";
+        assert!(answer.ends_with(fault), "{answer}");
+    }
+    assert_eq!(ask(&mut terminal, "c"), "forward 2040, back 0, net 2040\n");
+    terminal.press("q\n");
+    assert!(terminal.end().1.success());
 }
 
 #[test]

@@ -254,8 +254,9 @@ pub fn back_batch(r: Record, n: u32, mem: &mut [u32], table: &[u32]) -> Batch {
 
 /// Turns as encoder samples say, `given` being the one before them. Each is 0 to 3, in the forward
 /// cycle 0, 1, 3, 2: an equal sample turns nothing, a step along the cycle turns forward, one
-/// against it back. A turn that the machine refuses is counted, and the samples go on. Refusals 19
-/// and 20 end them; the turns before stand.
+/// against it back. A turn that the machine refuses is counted, and the samples go on. They end
+/// with refusal 20 where one or `given` is above 3, with 19 where one is two steps from the one
+/// before; the turns before stand.
 pub fn samples(r: Record, given: u8, samples: &[u8], mem: &mut [u32], table: &[u32]) -> Wheeled {
     // SAFETY: pointers and lengths come from live slices.
     unsafe {

@@ -327,20 +327,20 @@ fn short_lists(length: usize) -> Vec<Vec<u8>> {
 fn lists_of_samples() {
     let (states, _) = run(&short(), Forward);
     let lists = short_lists(4);
+    assert_eq!((lists.len(), states.len()), (1 + 5 + 25 + 125 + 625, 3));
+    let mut covered = 0;
     for state in &states {
-        for given in 0..=255 {
-            for sample in 0..=255 {
-                samples_as_single_turns(state, given, &[sample]);
-            }
+        for (given, sample) in (0..=255).flat_map(|given| (0..=255).map(move |s| (given, s))) {
+            samples_as_single_turns(state, given, &[sample]);
+            covered += 1;
         }
-        for given in 0..=4 {
-            for list in &lists {
-                samples_as_single_turns(state, given, list);
-            }
+        for (given, list) in (0..=4).flat_map(|given| lists.iter().map(move |l| (given, l))) {
+            samples_as_single_turns(state, given, list);
+            covered += 1;
         }
     }
-    println!("machine: {} lists of samples", lists.len());
-    assert_eq!((lists.len(), states.len()), (1 + 5 + 25 + 125 + 625, 3));
+    println!("machine: {covered} lists of samples");
+    assert_eq!(covered, 3 * (256 * 256 + 5 * 781));
 }
 
 /// Steps along the cycle from 0, each sample twice.

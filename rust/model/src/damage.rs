@@ -6,6 +6,7 @@ use crate::machine::{MAX_M, MAX_N, NODE};
 use crate::rng::Rng;
 use crate::state::Machine;
 use crate::words::EXTREMES;
+use std::iter;
 
 fn damage_size(rng: &mut Rng, machine: &mut Machine) {
     let r = &mut machine.record;
@@ -101,26 +102,23 @@ fn damage_wait(rng: &mut Rng, machine: &mut Machine) {
 
 type Damage = fn(&mut Rng, &mut Machine);
 
-/// The kinds of damage, by name.
-pub const DAMAGES: [(&str, Damage); 7] = [
-    ("damaged size", damage_size),
-    ("damaged link", damage_link),
-    ("damaged code", damage_code),
-    ("damaged near pc", damage_near_pc),
-    ("damaged register", damage_register),
-    ("damaged coin", damage_coin),
-    ("damaged wait", damage_wait),
+/// The kinds of damage, by name, and how many of ten are of each.
+pub const DAMAGES: [(&str, Damage, usize); 7] = [
+    ("damaged size", damage_size, 1),
+    ("damaged link", damage_link, 2),
+    ("damaged code", damage_code, 1),
+    ("damaged near pc", damage_near_pc, 2),
+    ("damaged register", damage_register, 1),
+    ("damaged coin", damage_coin, 1),
+    ("damaged wait", damage_wait, 2),
 ];
 
 /// Damages one field of the machine.
 pub fn damage(rng: &mut Rng, machine: &mut Machine) {
-    match rng.below(10) {
-        0 => damage_size(rng, machine),
-        1 | 2 => damage_link(rng, machine),
-        3 => damage_code(rng, machine),
-        4 | 5 => damage_near_pc(rng, machine),
-        6 => damage_register(rng, machine),
-        7 => damage_coin(rng, machine),
-        _ => damage_wait(rng, machine),
-    }
+    let mut kinds = DAMAGES
+        .iter()
+        .flat_map(|(_, kind, times)| iter::repeat_n(kind, *times));
+    let total: usize = DAMAGES.iter().map(|(.., times)| times).sum();
+    let kind = kinds.nth(rng.index(total)).expect("a kind");
+    kind(rng, machine);
 }

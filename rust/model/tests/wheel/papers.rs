@@ -1,4 +1,4 @@
-//! Examples worked out by hand from the text of the request.
+//! Examples worked out by hand from the text of #101.
 
 use crank_model::machine::Record;
 use crank_model::state::Machine;
@@ -61,7 +61,7 @@ const EXAMPLES: [Example; 27] = [
     (4, &[0, 3], [0, 0, 0], [4, 20], [0, 0]),
 ];
 
-fn examples(call: SampleCall) {
+fn examples(call: SampleCall) -> usize {
     for (given, samples, counts, ends, [pc, r1]) in EXAMPLES {
         let mut machine = two_turns();
         let answer = machine.samples(given, samples, call);
@@ -79,10 +79,11 @@ fn examples(call: SampleCall) {
         assert_eq!(answer, wheeled, "{samples:?} after {given}");
         assert_eq!(machine, expected, "{samples:?} after {given}");
     }
+    EXAMPLES.len()
 }
 
 /// Each sample after each, in the middle of the program: pc tells the turn.
-fn sixteen(call: SampleCall) {
+fn sixteen(call: SampleCall) -> usize {
     const STILL: Option<u32> = Some(1);
     const FORWARD: Option<u32> = Some(2);
     const BACK: Option<u32> = Some(0);
@@ -93,8 +94,10 @@ fn sixteen(call: SampleCall) {
         [FORWARD, TWO, STILL, BACK], // 2
         [TWO, BACK, FORWARD, STILL], // 3
     ];
+    let mut pairs = 0;
     for (given, row) in (0u8..).zip(turned) {
         for (sample, pc) in (0u8..).zip(row) {
+            pairs += 1;
             let mut machine = two_turns();
             machine.record.regs[0] = 1;
             let answer = machine.samples(given, &[sample], call);
@@ -109,18 +112,21 @@ fn sixteen(call: SampleCall) {
             assert_eq!(answer.refused, 0);
         }
     }
+    pairs
+}
+
+fn by_hand(call: SampleCall) {
+    let covered = (examples(call), sixteen(call));
+    println!("by hand: {} lists, {} pairs", covered.0, covered.1);
+    assert_eq!(covered, (27, 16));
 }
 
 #[test]
 fn model() {
-    examples(wheel::samples);
-    sixteen(wheel::samples);
+    by_hand(wheel::samples);
 }
 
 #[test]
 fn library() {
-    for call in CALLS {
-        examples(call);
-        sixteen(call);
-    }
+    CALLS.into_iter().for_each(by_hand);
 }

@@ -50,7 +50,7 @@ fn damaged() {
     let mut rng = Rng::new(63);
     let mut cover = Cover::default();
     for _ in 0..rounds(1_500) {
-        for (name, damage) in DAMAGES {
+        for (name, damage, _) in DAMAGES {
             let start = running(&mut rng, 500);
             let mut machine = start.clone();
             damage(&mut rng, &mut machine);
@@ -62,7 +62,7 @@ fn damaged() {
         }
     }
     cover.summary("damaged machines");
-    cover.demand(&DAMAGES.map(|(name, _)| name));
+    cover.demand(&DAMAGES.map(|(name, ..)| name));
     cover.demand(&CASES);
 }
 
