@@ -4,12 +4,7 @@ ghost use mathlib.Core.List.{_++_};
 ghost use Prim.Native.Nat.{_+_, _*_, _^_, _<_, _≤_};
 ghost use lib.ListN.{length, getD, take, drop};
 ghost use Rattle.image.specs.Format.{wordBytes, bytesOf, wordAt, wordsOf};
-
-fn wide(x: u8) -> u32
-    ensures { λ r. ⌜ r ≡ x ⌝ }
-{
-    x as u32
-}
+use word::wide;
 
 // Byte j, 0 where there is none.
 fn byte_at(s: &[u8], j: usize) -> u32

@@ -14,7 +14,7 @@ use Rattle.machine.specs.Calls.{Machine, Bounded, machineOf, turnOf, memoryOf, 
 use Rattle.machine.specs.declared.Record.{Record}
 use Rattle.machine.specs.declared.Turned.{Turned}
 use Rattle.machine.proofs.Claims.{refused-keeps, turn-home}
-use Rattle.wheel.specs.Wheel.{steps, fault, turnBy, memoryBy, Wheel, wheelOf, started, ended, moved, taken, run, turnedBy, WheelPromise}
+use Rattle.wheel.specs.Wheel.{steps, fault, turnBy, memoryBy, Wheel, wheelOf, started, ended, moved, taken, run, followOf, WheelPromise}
 use Rattle.wheel.specs.declared.Wheeled.{Wheeled}
 use Rattle.lists.specs.Lists.{Left}
 use Rattle.lists.specs.Lists.Call.{single}

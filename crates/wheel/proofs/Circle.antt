@@ -1,21 +1,26 @@
 -- The circle of samples. Assumes nothing.
-use Prim.Native.Nat.{ℕ, _^_, _<_}
+use Prim.Native.Nat.{ℕ, zero, suc, _<_, _≤_}
 use mathlib.Core.Path.{_≡_, refl}
 use native.Mathlib.Omega.{arith}
-use lib.Dec.{eqb, lit<}
-use Rattle.word.specs.Word.{pick, subWord}
-use Rattle.word.proofs.Words.{pick-word}
-use Rattle.wheel.specs.Wheel.{place, steps}
+use borrow.Author.Tests.{lt-ltb}
+use Rattle.word.specs.Word.{subWord}
+use Rattle.wheel.specs.Wheel.{steps, fault}
 use Rattle.wheel.specs.Claims.{Circle}
 
-place-word : (s : ℕ) → s < 2 ^ 32 → place s < 2 ^ 32
-place-word s h = pick-word (eqb s 2) 3 (pick (eqb s 3) 2 s) (lit< tt) (pick-word (eqb s 3) 2 s (lit< tt) h)
+still : (s : ℕ) → s ≤ 3 → (steps s s ≡ 0) × (fault s s ≡ 0)
+unfolding subWord
+still zero h = (refl, refl)
+still (suc zero) h = (refl, refl)
+still (suc (suc zero)) h = (refl, refl)
+still (suc (suc (suc zero))) h = (refl, refl)
+still (suc (suc (suc (suc s)))) h = absurd (omega arith)
 
 pub circle : Circle
 unfolding subWord
 circle =
     record {
-      cycle = (refl, refl, refl, refl);
-      still = λ s h. omega (arith, place-word s h);
-      against = λ p s h h′ e. omega (arith, place-word p h, place-word s h′, e);
+      cycle = ((refl, refl, refl, refl), (refl, refl, refl, refl), (refl, refl, refl, refl), (refl, refl, refl, refl));
+      still = still;
+      away = (refl, refl, refl, refl);
+      above = λ p s h. rw (lt-ltb 3 s h) refl;
     }

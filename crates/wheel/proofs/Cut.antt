@@ -8,7 +8,7 @@ use lib.Dec.{eqb, ltb}
 use borrow.Author.Tests.{eqb-true, eqb-false, ltb-false, le-ltb}
 use Rattle.word.specs.Word.{pick}
 use Rattle.machine.specs.declared.Record.{Record}
-use Rattle.wheel.specs.Wheel.{steps, fault, Wheel, wheelOf, started, ended, moved, taken, run, turnedBy, WheelPromise}
+use Rattle.wheel.specs.Wheel.{steps, fault, Wheel, wheelOf, started, ended, moved, taken, run, followOf, WheelPromise}
 use Rattle.wheel.specs.Claims.{joined, Cut}
 use Rattle.wheel.specs.declared.Wheeled.{Wheeled}
 
@@ -108,10 +108,10 @@ module _ (given : ℕ) (l : List ℕ) (r : Record) (mem table : List ℕ) where
   abbrev first : Wheel
   first = wheelOf (started given r) mem
 
-  ran : given ≤ 3 → turnedBy given l r mem table ≡ run table l first
+  ran : given ≤ 3 → followOf given l r mem table ≡ run table l first
   ran h = rw (le-ltb 3 given h) refl
 
-  given-low : turnedBy given l r mem table .answer .refusal ≡ 0 → given ≤ 3
+  given-low : followOf given l r mem table .answer .refusal ≡ 0 → given ≤ 3
   given-low z = go (ltb 3 given) refl z
     where
       go : (b : Bool) → ltb 3 given ≡ b → pick b (wheelOf (ended 20 (started given r)) mem) (run table l first) .answer .refusal ≡ 0 → given ≤ 3
@@ -119,7 +119,7 @@ module _ (given : ℕ) (l : List ℕ) (r : Record) (mem table : List ℕ) where
       go false e h = ltb-false 3 given e
 
   module _ {a : Wheeled} {mem′ : List ℕ} (p : WheelPromise given l r mem table a mem′) where
-    whole : wheelOf a mem′ ≡ turnedBy given l r mem table
+    whole : wheelOf a mem′ ≡ followOf given l r mem table
     whole = λ j. wheelOf (p .answer j) (p .memory j)
 
     -- one that is not refused: the samples ran, and what comes behind them goes on from what they left
@@ -155,7 +155,7 @@ from a mem z = λ j. wheelOf (record { forward = f j; back = b j; refused = r j;
 pub cut : Cut
 cut given l m r mem table a b mem′ mem″ p z q = record { answer = ap (λ (w : Wheel). w .answer) e; memory = ap (λ (w : Wheel). w .memory) e; bounds = p .bounds }
   where
-    e : wheelOf (joined a b) mem″ ≡ turnedBy given (l ++ m) r mem table
+    e : wheelOf (joined a b) mem″ ≡ followOf given (l ++ m) r mem table
     e =
         sym (ran given (l ++ m) r mem table (low given l r mem table p z m)
         ∙ (goes-on given l r mem table p z m

@@ -14,7 +14,7 @@ use Rattle.word.specs.Word.{pick}
 use Rattle.step.specs.View.{Bounds}
 use Rattle.machine.specs.Calls.{viewOf}
 use Rattle.machine.specs.declared.Record.{Record}
-use Rattle.wheel.specs.Wheel.{Wheel, wheelOf, started, ended, taken, run, turnedBy, WheelPromise}
+use Rattle.wheel.specs.Wheel.{Wheel, wheelOf, started, ended, taken, run, followOf, WheelPromise}
 use Rattle.wheel.specs.declared.Wheeled.{Wheeled}
 use Rattle.wheel.proofs.Taken.{made, made-more}
 
@@ -64,7 +64,7 @@ module _ {given last : ℕ} (samples : List ℕ) (r : Record) (mem table : List 
   abbrev first : Wheeled
   first = ended n (started last r)
 
-  promised : {a : Wheeled} {mem′ : List ℕ} → wheelOf a mem′ ≡ turnedBy last samples r mem table → WheelPromise given samples r mem table a mem′
+  promised : {a : Wheeled} {mem′ : List ℕ} → wheelOf a mem′ ≡ followOf last samples r mem table → WheelPromise given samples r mem table a mem′
   promised {a} {mem′} p =
       subst (λ (m : ℕ). WheelPromise m samples r mem table a mem′) e
       (record { answer = ap (λ (w : Wheel). w .answer) p; memory = ap (λ (w : Wheel). w .memory) p; bounds = g })
@@ -87,6 +87,6 @@ module _ {given last : ℕ} (samples : List ℕ) (r : Record) (mem table : List 
         promise = λ p. promised (p ∙ runs (ltb 3 last) refl);
       }
     where
-      runs : (b : Bool) → ltb 3 last ≡ b → run table samples (wheelOf first mem) ≡ turnedBy last samples r mem table
+      runs : (b : Bool) → ltb 3 last ≡ b → run table samples (wheelOf first mem) ≡ followOf last samples r mem table
       runs true q = absurd (omega (arith, sym z ∙ (f ∙ ap (λ (b : Bool). pick b 20 0) q)))
       runs false q = rw q (ap (λ (m : ℕ). run table samples (wheelOf (ended m (started last r)) mem)) z)

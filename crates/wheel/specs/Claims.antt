@@ -1,5 +1,5 @@
 -- What is claimed of the circle and of sample calls.
-use Prim.Native.Nat.{ℕ, _+_, _^_, _<_}
+use Prim.Native.Nat.{ℕ, _+_, _<_, _≤_}
 use mathlib.Core.Path.{_≡_}
 use mathlib.Core.List.{List, [], _∷_, _++_}
 use lib.Dec.{eqb, ltb}
@@ -8,12 +8,18 @@ use Rattle.machine.specs.declared.Record.{Record}
 use Rattle.wheel.specs.Wheel.{steps, fault, WheelPromise}
 use Rattle.wheel.specs.declared.Wheeled.{Wheeled}
 
--- The circle is document 02's forward cycle: 1 behind 0, 3 behind 1, 2 behind 3 and 0 behind 2 are one step; an equal sample
--- is none; and one step against it is three along it. Proved in proofs/Circle.
+-- s is behind p in the forward cycle: one step along the circle, and back again one against it, which is three along it;
+-- neither ends a call
+abbrev pub Behind : ℕ → ℕ → Type 0
+Behind p s = (steps p s ≡ 1) × (steps s p ≡ 3) × (fault p s ≡ 0) × (fault s p ≡ 0)
+
+-- The circle is document 02's cycle 0, 1, 3, 2, 0; an equal sample is no step; the other pairs are two steps away, 19; and
+-- above 3 all is 20, first. Proved in proofs/Circle.
 pub record Circle : Type 0 where
-  pub cycle : (steps 0 1 ≡ 1) × (steps 1 3 ≡ 1) × (steps 3 2 ≡ 1) × (steps 2 0 ≡ 1)
-  pub still : (s : ℕ) → s < 2 ^ 32 → steps s s ≡ 0
-  pub against : (p s : ℕ) → p < 2 ^ 32 → s < 2 ^ 32 → steps p s ≡ 1 → steps s p ≡ 3
+  pub cycle : Behind 0 1 × Behind 1 3 × Behind 3 2 × Behind 2 0
+  pub still : (s : ℕ) → s ≤ 3 → (steps s s ≡ 0) × (fault s s ≡ 0)
+  pub away : (fault 0 3 ≡ 19) × (fault 3 0 ≡ 19) × (fault 1 2 ≡ 19) × (fault 2 1 ≡ 19)
+  pub above : (p s : ℕ) → 3 < s → fault p s ≡ 20
 
 -- the answers of two calls, one behind the other, as one
 abbrev pub joined : Wheeled → Wheeled → Wheeled

@@ -17,7 +17,7 @@ use Rattle.wheel.specs.declared.Wheeled.{Wheeled}
 abbrev pub place : ℕ → ℕ
 place s = pick (eqb s 2) 3 (pick (eqb s 3) 2 s)
 
--- the steps along the circle from p to s
+-- the steps along the circle from p to s, around modulo 4: the difference of words is modulo 2^32, which 4 divides
 abbrev pub steps : ℕ → ℕ → ℕ
 steps p s = subWord (place s) (place p) % 4
 
@@ -82,13 +82,13 @@ module _ (table : List ℕ) where
   run (s ∷ rest) w = pick (eqb (taken s w .answer .refusal) 0) (run rest (taken s w)) (taken s w)
 
 -- the whole call; the given sample is looked at before any
-abbrev pub turnedBy : ℕ → List ℕ → Record → List ℕ → List ℕ → Wheel
-turnedBy given samples r mem table =
+abbrev pub followOf : ℕ → List ℕ → Record → List ℕ → List ℕ → Wheel
+followOf given samples r mem table =
     pick (ltb 3 given) (wheelOf (ended 20 (started given r)) mem) (run table samples (wheelOf (started given r) mem))
 
 -- What a call with these samples from r, mem and table promises of its answer a and of the lent memory at exit; and the
 -- bounds of its arguments, as of a turn's.
 pub record WheelPromise (given : ℕ) (samples : List ℕ) (r : Record) (mem table : List ℕ) (a : Wheeled) (mem′ : List ℕ) : Type 0 where
-  pub answer : a ≡ turnedBy given samples r mem table .answer
-  pub memory : mem′ ≡ turnedBy given samples r mem table .memory
+  pub answer : a ≡ followOf given samples r mem table .answer
+  pub memory : mem′ ≡ followOf given samples r mem table .memory
   pub bounds : Bounds (viewOf r mem)

@@ -6,9 +6,10 @@ ghost use Rattle.wheel.specs.Wheel.{place, steps, fault, turnBy, memoryB
 use machine::Record;
 use machine::Turned;
 use word::choose;
+use word::wide;
 
 // What the samples of a call came to: turns accepted forward and back, and turns refused; the last sample
-// before the one that ended the call; the refusal of that one, 0 for none; and the new record.
+// before any that ended the call, the given one if there is none; the refusal, 0 for none; and the new record.
 #[repr(C)]
 pub struct Wheeled {
     pub forward: u64,
@@ -19,12 +20,7 @@ pub struct Wheeled {
     pub state: Record,
 }
 
-fn wide(b: u8) -> u32
-    ensures { λ r. ⌜ r ≡ b ⌝ }
-{
-    b as u32
-}
-
+// n where the test holds, else 0: no more than n, so that a count has room for it.
 fn only_if(test: bool, n: u64) -> u64
     ensures { λ r. ⌜ (r ≡ pick test n 0) × (r ≤ n) ⌝ }
 {

@@ -56,6 +56,13 @@ pub fn low_bit(a: u32) -> u32
     a % 2
 }
 
+// A byte as a word.
+pub fn wide(b: u8) -> u32
+    ensures { λ r. ⌜ r ≡ b ⌝ }
+{
+    b as u32
+}
+
 // a where the test holds, else b.
 pub fn choose(test: bool, a: u32, b: u32) -> u32
     ensures { λ r. ⌜ r ≡ pick test a b ⌝ }
