@@ -14,12 +14,13 @@ use Rattle.machine.specs.Calls.{Machine, Bounded, machineOf, turnOf, memoryOf, 
 use Rattle.machine.specs.declared.Record.{Record}
 use Rattle.machine.specs.declared.Turned.{Turned}
 use Rattle.machine.proofs.Claims.{refused-keeps, turn-home}
-use Rattle.wheel.specs.Wheel.{steps, fault, turnBy, memoryBy, Wheel, wheelOf, started, ended, moved, taken, run, followOf, WheelPromise}
+use Rattle.wheel.specs.Wheel.{steps, fault, Wheel, wheelOf, started, ended, moved, taken, run, WheelPromise}
 use Rattle.wheel.specs.declared.Wheeled.{Wheeled}
+use Rattle.wheel.proofs.Promise.{whole}
 use Rattle.lists.specs.Lists.{Left}
 use Rattle.lists.specs.Lists.Call.{single}
 use Rattle.lists.specs.Lists.Left.{empty, then}
-use Rattle.lists.specs.Samples.{turnsOf, named, namedBy, Turns, SamplesAreTurns}
+use Rattle.lists.specs.Samples.{named, namedBy, Turns, SamplesAreTurns}
 use Rattle.lists.specs.Samples.Turns.{none, turn}
 
 module _ (table : List ℕ) where
@@ -151,9 +152,8 @@ module _ (table : List ℕ) where
 
     pub call-turns : {a : Wheeled} {mem′ : List ℕ} → WheelPromise given l r mem table a mem′
         → Turns table (namedBy given l) (machineOf r mem) (a .forward) (a .back) (a .refused) (machineOf (a .state) mem′)
-    call-turns {a} {mem′} p =
-        let e : end (ltb 3 given) ≡ wheelOf a mem′ = sym (λ j. wheelOf (p .answer j) (p .memory j)) in
-        subst (Makes (ltb 3 given)) e (makes (p .bounds) (ltb 3 given))
+    call-turns p =
+        subst (Makes (ltb 3 given)) (sym (whole p)) (makes (p .bounds) (ltb 3 given))
 
   -- ---- what goes on by single turns goes on by a list of them
 

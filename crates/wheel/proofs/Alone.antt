@@ -5,8 +5,7 @@ use mathlib.Core.Bool.{Bool, true, false}
 use mathlib.Core.List.{List, [], _∷_}
 use lib.Dec.{eqb, ltb}
 use Rattle.word.specs.Word.{pick}
-use Rattle.machine.specs.declared.Record.{Record}
-use Rattle.wheel.specs.Wheel.{steps, fault, Wheel, wheelOf, started, ended, moved, taken, run, followOf, WheelPromise}
+use Rattle.wheel.specs.Wheel.{steps, fault, Wheel, wheelOf, started, ended, moved, taken, run}
 use Rattle.wheel.specs.Claims.{endOf, SamplesAlone}
 use Rattle.wheel.specs.declared.Wheeled.{Wheeled}
 

@@ -1,5 +1,5 @@
 -- Two sample calls as one. Assumes nothing.
-use Prim.Native.Nat.{ℕ, _+_, _<_, _≤_}
+use Prim.Native.Nat.{ℕ, _+_, _≤_}
 use mathlib.Core.Path.{_≡_, refl, sym, ap, subst, _∙_}
 use mathlib.Core.Bool.{Bool, true, false}
 use mathlib.Core.List.{List, [], _∷_, _++_}
@@ -11,6 +11,7 @@ use Rattle.machine.specs.declared.Record.{Record}
 use Rattle.wheel.specs.Wheel.{steps, fault, Wheel, wheelOf, started, ended, moved, taken, run, followOf, WheelPromise}
 use Rattle.wheel.specs.Claims.{joined, Cut}
 use Rattle.wheel.specs.declared.Wheeled.{Wheeled}
+use Rattle.wheel.proofs.Promise.{whole, promised}
 
 module _ (table : List ℕ) where
   -- ---- what a wheel does, behind the answer a
@@ -119,16 +120,13 @@ module _ (given : ℕ) (l : List ℕ) (r : Record) (mem table : List ℕ) where
       go false e h = ltb-false 3 given e
 
   module _ {a : Wheeled} {mem′ : List ℕ} (p : WheelPromise given l r mem table a mem′) where
-    whole : wheelOf a mem′ ≡ followOf given l r mem table
-    whole = λ j. wheelOf (p .answer j) (p .memory j)
-
     -- one that is not refused: the samples ran, and what comes behind them goes on from what they left
     module _ (z : a .refusal ≡ 0) (m : List ℕ) where
       low : given ≤ 3
-      low = given-low (ap (λ (w : Wheel). w .answer .refusal) (sym whole) ∙ z)
+      low = given-low (ap (λ (w : Wheel). w .answer .refusal) (sym (whole p)) ∙ z)
 
       left : run table l first ≡ wheelOf a mem′
-      left = sym (whole ∙ ran low)
+      left = sym (whole p ∙ ran low)
 
       further : Goes table m l first
       further = goes table m l first low (ap (λ (w : Wheel). w .answer .refusal) left ∙ z)
@@ -153,7 +151,7 @@ from a mem z = λ j. wheelOf (record { forward = f j; back = b j; refused = r j;
     r = omega arith
 
 pub cut : Cut
-cut given l m r mem table a b mem′ mem″ p z q = record { answer = ap (λ (w : Wheel). w .answer) e; memory = ap (λ (w : Wheel). w .memory) e; bounds = p .bounds }
+cut given l m r mem table a b mem′ mem″ p z q = promised (p .bounds) e
   where
     e : wheelOf (joined a b) mem″ ≡ followOf given (l ++ m) r mem table
     e =
@@ -161,4 +159,4 @@ cut given l m r mem table a b mem′ mem″ p z q = record { answer = ap (λ (w 
         ∙ (goes-on given l r mem table p z m
         ∙ (ap (run table m) (from a mem′ z)
         ∙ (run-behind table a m (wheelOf (started (a .last) (a .state)) mem′)
-        ∙ ap (behind table a) (sym (whole (a .last) m (a .state) mem′ table q ∙ ran (a .last) m (a .state) mem′ table (last-low given l r mem table p z m)))))))
+        ∙ ap (behind table a) (sym (whole q ∙ ran (a .last) m (a .state) mem′ table (last-low given l r mem table p z m)))))))

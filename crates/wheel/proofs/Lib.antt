@@ -1,3 +1,4 @@
+pub mod Promise
 pub mod Turns
 pub mod Taken
 pub mod Loop

@@ -3,7 +3,7 @@ use Prim.Native.Nat.{ℕ, suc, _+_, _^_, _<_, _≤_}
 use mathlib.Core.Path.{_≡_, refl, sym, ap, subst, _∙_}
 use mathlib.Core.Logic.{_≢_}
 use mathlib.Core.Bool.{Bool, true, false}
-use mathlib.Core.List.{List, [], _∷_}
+use mathlib.Core.List.{List}
 use native.Mathlib.Omega.{arith}
 use native.Mathlib.Numerals.{add-one}
 use lib.Dec.{eqb, ltb}
@@ -16,6 +16,7 @@ use Rattle.machine.specs.Calls.{viewOf}
 use Rattle.machine.specs.declared.Record.{Record}
 use Rattle.wheel.specs.Wheel.{Wheel, wheelOf, started, ended, taken, run, followOf, WheelPromise}
 use Rattle.wheel.specs.declared.Wheeled.{Wheeled}
+use Rattle.wheel.proofs.Promise.{promised}
 use Rattle.wheel.proofs.Taken.{made, made-more}
 
 -- the invariant, with the promise of the call, which waits for how the samples end
@@ -64,16 +65,14 @@ module _ {given last : ℕ} (samples : List ℕ) (r : Record) (mem table : List 
   abbrev first : Wheeled
   first = ended n (started last r)
 
-  promised : {a : Wheeled} {mem′ : List ℕ} → wheelOf a mem′ ≡ followOf last samples r mem table → WheelPromise given samples r mem table a mem′
-  promised {a} {mem′} p =
-      subst (λ (m : ℕ). WheelPromise m samples r mem table a mem′) e
-      (record { answer = ap (λ (w : Wheel). w .answer) p; memory = ap (λ (w : Wheel). w .memory) p; bounds = g })
+  ends : {a : Wheeled} {mem′ : List ℕ} → wheelOf a mem′ ≡ followOf last samples r mem table → WheelPromise given samples r mem table a mem′
+  ends {a} {mem′} p = subst (λ (m : ℕ). WheelPromise m samples r mem table a mem′) e (promised g p)
 
   pub refused : n ≢ 0 → WheelPromise given samples r mem table first mem
   refused h = go (ltb 3 last) refl
     where
       go : (b : Bool) → ltb 3 last ≡ b → WheelPromise given samples r mem table first mem
-      go true q = promised (rw q (ap (λ (m : ℕ). wheelOf (ended m (started last r)) mem) (f ∙ ap (λ (b : Bool). pick b 20 0) q)))
+      go true q = ends (rw q (ap (λ (m : ℕ). wheelOf (ended m (started last r)) mem) (f ∙ ap (λ (b : Bool). pick b 20 0) q)))
       go false q = absurd (h (f ∙ ap (λ (b : Bool). pick b 20 0) q))
 
   pub begin : n ≡ 0 → length samples < 2 ^ 64 → Loop given samples table first mem first mem 0
@@ -84,7 +83,7 @@ module _ {given last : ℕ} (samples : List ℕ) (r : Record) (mem table : List 
         short = l;
         room = omega arith;
         long = refl;
-        promise = λ p. promised (p ∙ runs (ltb 3 last) refl);
+        promise = λ p. ends (p ∙ runs (ltb 3 last) refl);
       }
     where
       runs : (b : Bool) → ltb 3 last ≡ b → run table samples (wheelOf first mem) ≡ followOf last samples r mem table

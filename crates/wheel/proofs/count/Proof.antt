@@ -1,4 +1,3 @@
-use native.Mathlib.Omega.{arith}
 use borrow.Author.Needs.{needs}
 use Rattle.wheel.proofs.count.Statement.{statement}
 use Rattle.wheel.proofs.count.Tie as tie
