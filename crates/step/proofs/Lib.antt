@@ -3,3 +3,4 @@ pub mod Sized
 pub mod Known
 pub mod Numbers
 pub mod Undo
+pub mod Stores

@@ -3,7 +3,7 @@ use mathlib.Core.Path.{_≡_, refl, sym, ap, ap₂, _∙_, subst}
 use mathlib.Core.Logic.{_≢_}
 use mathlib.Core.Bool.{Bool, true, false, not, _&&_}
 use mathlib.Core.List.{List, [], _∷_}
-use Prim.Native.Nat.{ℕ, zero, suc, _+_, _-_, _*_, _%_, _^_, _<_, _≤_}
+use Prim.Native.Nat.{ℕ, zero, suc, _+_, _-_, _^_, _<_, _≤_}
 use native.Mathlib.Omega.{arith}
 use lib.Dec.{eqb, ltb, leb}
 use lib.ListN.{length, getD, set, length-set}
@@ -17,8 +17,8 @@ use Rattle.qins.specs.Op.Op.{None, Start, Finish, Xor, Add, Sub, Neg, Swap, Swa
 use Rattle.qins.specs.Op.Source.{Imm, Reg, Negated, Complement, Sum, Product, Quotient, Equal, Less, IfZero, IfNonzero, Bit}
 use Rattle.qins.proofs.Formed.{Named, Apart, Formed}
 use Rattle.step.specs.View.{View, Words, Bounds, reg, flip}
-use Rattle.step.specs.Table.{fc, lc, cf, cl, nx, pr, w, isNode, link, paired}
-use Rattle.step.specs.Step.{written, stored, marked, performed, value, shifted, refuse, isReady, whenReady, isData, isCoin, child, enter, qif, pass, fiq, attempt}
+use Rattle.step.specs.Table.{lc, cf, cl, nx, pr, w, isNode, link, paired}
+use Rattle.step.specs.Step.{performed, value, shifted, refuse, isReady, whenReady, isData, isCoin, child, enter, qif, pass, fiq, attempt}
 use Rattle.step.specs.declared.Status.{Status}
 use Rattle.step.specs.declared.Direction.{Direction}
 use Rattle.step.specs.declared.Direction.the-variants.{Forward, Back}
@@ -27,12 +27,12 @@ use Rattle.step.specs.declared.Effect.the-variants.{Nothing, Write, Writ
 use Rattle.step.specs.declared.Attempt.{Attempt}
 use Rattle.step.specs.declared.Attempt.the-variants.{Refused, Does}
 
--- an effect that spares pc and the code, and writes words
+-- an effect that spares pc and the code, writes words, and stores within the memory
 abbrev pub Fair : Effect → Status → Type 0
 Fair Nothing at = Unit {0}
 Fair (Write a v) at = (0 < a) × (v < 2 ^ 32)
 Fair (WriteTwo a v b x) at = (0 < a) × (v < 2 ^ 32) × (0 < b) × (x < 2 ^ 32)
-Fair (SwapWord a i) at = (0 < a) × (at .k ≤ i)
+Fair (SwapWord a i) at = (0 < a) × (at .k ≤ i) × (i < at .m)
 Fair (SetNode u j) at = Unit {0}
 
 -- the effect that the operation has the other way, after e, and that it leads home
@@ -187,11 +187,10 @@ module _ (t : List ℕ) (s : View) (g : Bounds s) (room : s .at .m ≤ length (s
         fair = (n .0 .0, word x y (g .regs a) (g .regs b), n .1 .0, word y x (g .regs b) (g .regs a));
       })
 
-  data-in : (i : ℕ) → not (isData at i) ≡ false → (at .k ≤ i) × (i < length (s .memory))
+  data-in : (i : ℕ) → not (isData at i) ≡ false → (at .k ≤ i) × (i < at .m)
   data-in i h =
       let p = and-true (leb (at .k) i) (ltb i (at .m)) (not-not _ h) in
-      let q = ltb-true i (at .m) (p .1) in
-      (leb-true (at .k) i (p .0), omega arith)
+      (leb-true (at .k) i (p .0), ltb-true i (at .m) (p .1))
 
   -- ---- qif and fiq set the node and the wait count
 
@@ -337,10 +336,10 @@ module _ (t : List ℕ) (s : View) (g : Bounds s) (room : s .at .m ≤ length (s
         does = rw (p .0, apart (s .regs) a (getD (s .memory) i 0) v (f .1), q .0);
         home =
             rw (
-              set-back (s .regs) a (getD (s .memory) i 0) _ (getD-set-same (s .memory) i (reg s a) 0 (l .1)),
+              set-back (s .regs) a (getD (s .memory) i 0) _ (getD-set-same (s .memory) i (reg s a) 0 (omega (arith, l .1))),
               set-back (s .memory) i (reg s a) _ (read a _ (f .0 .1)),
             );
-        fair = (f .0 .0, l .0);
+        fair = (f .0 .0, l .0, l .1);
       })
   undone d (Qif a) f h = let p = passed (not (isCoin (reg s a))) 16 _ h in qif-undone d a (p .0) (p .1)
   undone d (Fiq a) f h =

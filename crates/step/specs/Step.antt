@@ -1,5 +1,5 @@
 -- What one instruction does at a fixed pc, either way (document 01, "Effects", "A forward turn", "A back turn").
-use Prim.Native.Nat.{ℕ, _+_, _-_, _*_, _%_}
+use Prim.Native.Nat.{ℕ, _+_, _-_, _%_}
 use mathlib.Core.Bool.{Bool, true, false, not, _&&_}
 use mathlib.Core.List.{List}
 use lib.Dec.{eqb, ltb, leb}
@@ -16,6 +16,7 @@ use Rattle.step.specs.declared.Direction.{Direction}
 use Rattle.step.specs.declared.Direction.the-variants.{Forward, Back}
 use Rattle.step.specs.declared.Effect.{Effect}
 use Rattle.step.specs.declared.Effect.the-variants.{Nothing, Write, WriteTwo, SwapWord, SetNode}
+use Rattle.step.specs.declared.Store.{Store}
 use Rattle.step.specs.declared.Attempt.{Attempt}
 use Rattle.step.specs.declared.Attempt.the-variants.{Refused, Does}
 
@@ -29,13 +30,23 @@ written (WriteTwo a v b x) l m = set (set l a v) b x
 written (SwapWord a i) l m = set l a (getD m i 0)
 written (SetNode u j) l m = l
 
+-- the memory word that it stores, if it stores one
+abbrev pub noStore : Store
+noStore = record { made = false; address = 0; value = 0 }
+
+abbrev pub storeOf : Effect → List ℕ → Store
+storeOf Nothing l = noStore
+storeOf (Write a v) l = noStore
+storeOf (WriteTwo a v b x) l = noStore
+storeOf (SwapWord a i) l = record { made = true; address = i; value = getD l a 0 }
+storeOf (SetNode u j) l = noStore
+
+abbrev pub storeIn : Store → List ℕ → List ℕ
+storeIn s m = pick (s .made) (set m (s .address) (s .value)) m
+
 -- the memory after it
 abbrev pub stored : Effect → List ℕ → List ℕ → List ℕ
-stored Nothing l m = m
-stored (Write a v) l m = m
-stored (WriteTwo a v b x) l m = m
-stored (SwapWord a i) l m = set m i (getD l a 0)
-stored (SetNode u j) l m = m
+stored e l m = storeIn (storeOf e l) m
 
 -- the node and the wait count after it
 abbrev pub marked : Effect → Status → Status

@@ -3,6 +3,14 @@ ghost use mathlib.Core.Path.{_≡_};
 ghost use mathlib.Core.List.{_++_};
 ghost use Prim.Native.Nat.{min};
 ghost use lib.ListN.{getD, set, take, drop};
+ghost use Rattle.word.specs.Word.{pick};
+
+// x where first holds, else y.
+pub fn select<'a>(first: bool, x: &'a [u32], y: &'a [u32]) -> &'a [u32]
+    ensures { λ r. ⌜ now r ≡ pick first (now (x .entry)) (now (y .entry)) ⌝ }
+{
+    if first { x } else { y }
+}
 
 pub fn look(regs: &[u32], a: usize) -> u32
     ensures { λ r. ⌜ r ≡ getD (now (regs .entry)) a 0 ⌝ }

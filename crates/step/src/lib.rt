@@ -33,6 +33,13 @@ pub enum Effect {
     SetNode(u32, u32),
 }
 
+// The memory word that an effect stores: whether there is one, its address and the word.
+pub struct Store {
+    pub made: bool,
+    pub address: u32,
+    pub value: u32,
+}
+
 pub enum Attempt {
     Refused(u32),
     Does(Effect),

@@ -6,9 +6,10 @@ ghost use lib.Dec.{eqb, ltb};
 ghost use lib.ListN.{length, getD, set, take, drop};
 ghost use Rattle.word.specs.Word.{pick};
 ghost use Rattle.step.specs.View.{withNode};
-ghost use Rattle.step.specs.Step.{written, stored, marked};
+ghost use Rattle.step.specs.Step.{written, noStore, storeOf, stored, marked};
 use crate::Effect;
 use crate::Status;
+use crate::Store;
 use crate::lent::look;
 use crate::lent::put;
 use crate::lent::store;
@@ -68,10 +69,9 @@ fn swap_word(a: usize, i: u32, regs: &mut [u32], mem: &mut [u32], m: u32)
     put(regs, a, v);
 }
 
-pub fn apply(e: Effect, regs: &mut [u32], mem: &mut [u32], m: u32)
-    ensures { λ _.
-        ⌜ (now (regs .exit) ≡ written e (now (regs .entry)) (take m (now (mem .entry))))
-        × (now (mem .exit) ≡ stored e (now (regs .entry)) (take m (now (mem .entry))) ++ drop m (now (mem .entry))) ⌝ }
+// What the effect does to the registers alone.
+pub fn write(e: Effect, regs: &mut [u32], mem: &[u32], m: u32)
+    ensures { λ _. ⌜ now (regs .exit) ≡ written e (now (regs .entry)) (take m (now (mem .entry))) ⌝ }
 {
     match e {
         Effect::Nothing => {}
@@ -80,7 +80,44 @@ pub fn apply(e: Effect, regs: &mut [u32], mem: &mut [u32], m: u32)
             put(regs, a, v);
             put(regs, b, y);
         }
-        Effect::SwapWord(a, i) => swap_word(a, i, regs, mem, m),
+        Effect::SwapWord(a, i) => put(regs, a, word_at(mem, m, i)),
         Effect::SetNode(_u, _j) => {}
+    }
+}
+
+// An exchange is performed at once: told by store_of and write first, it costs every turn of a run ten
+// instructions more.
+pub fn apply(e: Effect, regs: &mut [u32], mem: &mut [u32], m: u32)
+    ensures { λ _.
+        ⌜ (now (regs .exit) ≡ written e (now (regs .entry)) (take m (now (mem .entry))))
+        × (now (mem .exit) ≡ stored e (now (regs .entry)) (take m (now (mem .entry))) ++ drop m (now (mem .entry))) ⌝ }
+{
+    match e {
+        Effect::SwapWord(a, i) => swap_word(a, i, regs, mem, m),
+        _ => write(e, regs, mem, m),
+    }
+}
+
+pub fn no_store() -> Store
+    ensures { λ r. ⌜ r ≡ noStore ⌝ }
+{
+    Store {
+        made: false,
+        address: 0,
+        value: 0,
+    }
+}
+
+// The memory word that the effect would store.
+pub fn store_of(e: Effect, regs: &[u32]) -> Store
+    ensures { λ r. ⌜ r ≡ storeOf e (now (regs .entry)) ⌝ }
+{
+    match e {
+        Effect::SwapWord(a, i) => Store {
+            made: true,
+            address: i,
+            value: look(regs, a),
+        },
+        _ => no_store(),
     }
 }
