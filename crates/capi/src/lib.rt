@@ -3,6 +3,7 @@ ghost use mathlib.Core.Path.{_≡_};
 ghost use Rattle.step.specs.declared.Direction.{Direction};
 ghost use Rattle.machine.specs.Calls.{TurnPromise};
 ghost use Rattle.machine.specs.Batch.{BatchPromise};
+ghost use Rattle.machine.specs.Preview.{PreviewPromise};
 ghost use Rattle.wheel.specs.Wheel.{WheelPromise};
 ghost use lib.ListN.{length};
 ghost use Rattle.word.specs.Word.{pick};
@@ -13,6 +14,7 @@ ghost use Rattle.image.specs.Check.{checkOf};
 use image::Checked;
 use image::Loaded;
 use machine::Batch;
+use machine::Preview;
 use machine::Record;
 use machine::Turned;
 use wheel::Wheeled;
@@ -37,6 +39,20 @@ pub extern "C" fn crank_back(r: Record, mem: &mut [u32], table: &[u32]) -> Turne
     ensures { λ a. ⌜ TurnPromise Direction.Back r (now (mem .entry)) (now (table .entry)) a (now (mem .exit)) ⌝ }
 {
     r.back(mem, table)
+}
+
+#[no_mangle]
+pub extern "C" fn crank_preview_forward(r: Record, mem: &[u32], table: &[u32]) -> Preview
+    ensures { λ a. ⌜ PreviewPromise Direction.Forward r (now (mem .entry)) (now (table .entry)) a ⌝ }
+{
+    r.preview_forward(mem, table)
+}
+
+#[no_mangle]
+pub extern "C" fn crank_preview_back(r: Record, mem: &[u32], table: &[u32]) -> Preview
+    ensures { λ a. ⌜ PreviewPromise Direction.Back r (now (mem .entry)) (now (table .entry)) a ⌝ }
+{
+    r.preview_back(mem, table)
 }
 
 #[no_mangle]

@@ -1,22 +1,25 @@
 -- A turn in place, from its parts. Assumes nothing.
-use mathlib.Core.Path.{_≡_, refl, sym, ap, _∙_}
-use mathlib.Core.Bool.{Bool, _&&_}
+use mathlib.Core.Path.{_≡_, refl, sym, ap, _∙_, subst}
+use mathlib.Core.Bool.{Bool, true, false, _&&_}
 use mathlib.Core.List.{List, _++_}
 use Prim.Native.Nat.{ℕ}
 use lib.Dec.{eqb}
 use lib.ListN.{length, getD, set, take, drop, take-append-drop}
+use Rattle.word.specs.Word.{pick}
 use Rattle.step.specs.declared.Status.{Status}
 use Rattle.step.specs.declared.Direction.{Direction}
 use Rattle.step.specs.declared.Direction.the-variants.{Forward}
 use Rattle.step.specs.declared.Effect.{Effect}
 use Rattle.step.specs.declared.Attempt.{Attempt}
 use Rattle.step.specs.declared.Attempt.the-variants.{Refused, Does}
+use Rattle.step.specs.declared.Store.{Store}
 use Rattle.step.specs.View.{View, seen, nodes}
-use Rattle.step.specs.Step.{written, marked, performed, number, refuse, isReady}
+use Rattle.step.specs.Step.{written, noStore, marked, performed, number, refuse, isReady}
 use Rattle.step.proofs.Views.{seam-long}
-use Rattle.step.proofs.Undo.{refused-no, inside, passed, set-back}
+use Rattle.step.proofs.Undo.{refused-no, inside, set-back}
 use Rattle.machine.specs.Turn.{fromPc, toPc, from, newPc, starts, landed, judged, executed, turned, planAt, turnedAt}
-use Rattle.machine.specs.InPlace.{PcAfter, Plans, Performs, Steps}
+use Rattle.machine.specs.Preview.{plannedStore}
+use Rattle.machine.specs.InPlace.{PcAfter, Plans, Performs, Shows, Steps}
 use Rattle.machine.proofs.Moves.{turned-regs, turned-long}
 use Rattle.machine.proofs.Sure.{landed-attempt, judged-attempt}
 
@@ -64,34 +67,59 @@ plans {d = d} {at = at} {regs = regs} {mem = mem} {table = table} {regs′ = reg
 
 -- ---- the turn
 
-module _ {d : Direction} {at : Status} {regs mem table : List ℕ} {a : Attempt} {new : ℕ} {found : List ℕ} (p : Plans d at regs mem table a new found) where
+-- a memory that is not written, and nothing to store
+kept-mem : (live : Bool) (m : ℕ) (mem shown : List ℕ) → mem ≡ pick live (take m (pick live mem shown) ++ drop m mem) mem
+kept-mem true m mem shown = sym (take-append-drop m mem)
+kept-mem false m mem shown = refl
+
+none-stored : (live : Bool) → noStore ≡ pick live noStore noStore
+none-stored true = refl
+none-stored false = refl
+
+module _ (live : Bool) (mem shown : List ℕ) {d : Direction} {at : Status} {regs words table : List ℕ} {a : Attempt} {new : ℕ} {found : List ℕ}
+    (read : words ≡ pick live mem shown) (plan : Plans d at regs words table a new found) where
+  abbrev s : View
+  s = seen at regs (pick live mem shown)
+
+  p : Plans d at regs (pick live mem shown) table a new found
+  p = subst (λ (l : List ℕ). Plans d at regs l table a new found) read plan
+
+  abbrev Stepped : ℕ → Status → Store → List ℕ → List ℕ → Type 0
+  Stepped w at′ k regs′ mem′ = Steps live d at regs mem (pick live mem shown) table w at′ k regs′ mem′
+
   -- Steps, told of the plan as it is known to be
-  steps-of : (x : Attempt) {w : ℕ} {at′ : Status} {regs′ mem′ : List ℕ} → a ≡ x → w ≡ number x → at′ ≡ turned d x (seen at regs mem) .at
-      → regs′ ≡ turned d x (seen at regs mem) .regs → mem′ ≡ turned d x (seen at regs mem) .memory ++ drop (at .m) mem
-      → Steps d at regs mem table w at′ regs′ mem′
-  steps-of x h w q f m =
+  steps-of : (x : Attempt) {w : ℕ} {at′ : Status} {k : Store} {regs′ mem′ : List ℕ} → a ≡ x → w ≡ number x → at′ ≡ turned d x s .at
+      → regs′ ≡ turned d x s .regs → mem′ ≡ pick live (turned d x s .memory ++ drop (at .m) mem) mem
+      → k ≡ pick live noStore (plannedStore x (from d s)) → Stepped w at′ k regs′ mem′
+  steps-of x h w q f m k =
       let e = sym h ∙ p .attempt in
-      let s = seen at regs mem in
       record {
         refusal = w ∙ ap number e;
         status = q ∙ ap (λ (z : Attempt). turned d z s .at) e;
         registers = f ∙ ap (λ (z : Attempt). turned d z s .regs) e;
-        memory = m ∙ ap (λ (z : Attempt). turned d z s .memory ++ drop (at .m) mem) e;
+        memory = m ∙ ap (λ (z : Attempt). pick live (turned d z s .memory ++ drop (at .m) mem) mem) e;
+        store = k ∙ ap (λ (z : Attempt). pick live noStore (plannedStore z (from d s))) e;
       }
 
   -- pc is put back
-  pub steps-refused : {n old : ℕ} {regs′ : List ℕ} → a ≡ Refused n → old ≡ getD regs 0 0 → regs′ ≡ set found 0 old
-      → Steps d at regs mem table n at regs′ mem
-  steps-refused {n} h o f =
-      steps-of (Refused n) h refl refl (f ∙ rw (p .found, o) (set-back regs 0 _ _ refl)) (sym (take-append-drop (at .m) mem))
+  pub steps-refused : {n old : ℕ} {regs′ : List ℕ} {k : Store} → a ≡ Refused n → old ≡ getD regs 0 0 → regs′ ≡ set found 0 old → k ≡ noStore
+      → Stepped n at k regs′ mem
+  steps-refused {n} h o f k =
+      steps-of (Refused n) h refl refl (f ∙ rw (p .found, o) (set-back regs 0 _ _ refl)) (kept-mem live (at .m) mem shown) (k ∙ none-stored live)
 
-  pub steps-done : {e : Effect} {at′ : Status} {regs′ mem′ : List ℕ} → a ≡ Does e → at′ ≡ marked e at → Performs e new (at .m) found mem regs′ mem′
-      → Steps d at regs mem table 0 at′ regs′ mem′
-  steps-done {e} h m f = steps-of (Does e) h refl m (f .registers ∙ rw (p .found, p .pc .done e h)) (f .memory ∙ rw (p .found))
+  pub steps-live : {e : Effect} {at′ : Status} {regs′ mem′ : List ℕ} {k : Store} → live ≡ true → a ≡ Does e → at′ ≡ marked e at
+      → Performs e new (at .m) found mem regs′ mem′ → k ≡ noStore → Stepped 0 at′ k regs′ mem′
+  steps-live {e} l h m f k = steps-of (Does e) h refl m (f .registers ∙ rw (p .found, p .pc .done e h, l)) (f .memory ∙ rw (p .found, l)) (k ∙ rw l)
 
-module _ {d : Direction} {at : Status} {regs mem table : List ℕ} {w : ℕ} {at′ : Status} {regs′ mem′ : List ℕ} (f : Steps d at regs mem table w at′ regs′ mem′) where
-  pub steps-regs : length regs′ ≡ length regs
-  steps-regs = ap length (f .registers) ∙ turned-regs d (planAt d at regs mem table) (seen at regs mem)
+  pub steps-shown : {e : Effect} {at′ : Status} {regs′ : List ℕ} {k : Store} → live ≡ false → a ≡ Does e → at′ ≡ marked e at
+      → Shows e new (at .m) found shown k regs′ → Stepped 0 at′ k regs′ mem
+  steps-shown {e} l h m f = steps-of (Does e) h refl m (f .registers ∙ rw (p .found, p .pc .done e h, l)) (rw l) (f .store ∙ rw (p .found, l))
 
-  pub steps-long : length mem′ ≡ length mem
-  steps-long = ap length (f .memory) ∙ seam-long mem (turnedAt d at regs mem table .memory) (at .m) (turned-long d (planAt d at regs mem table) (seen at regs mem))
+module _ {d : Direction} {at : Status} {regs table : List ℕ} {w : ℕ} {at′ : Status} {k : Store} {regs′ mem′ : List ℕ} where
+  pub steps-regs : {live : Bool} {mem read : List ℕ} → Steps live d at regs mem read table w at′ k regs′ mem′ → length regs′ ≡ length regs
+  steps-regs {read = read} f = ap length (f .registers) ∙ turned-regs d (planAt d at regs read table) (seen at regs read)
+
+  pub steps-long : (live : Bool) (mem shown : List ℕ) → Steps live d at regs mem (pick live mem shown) table w at′ k regs′ mem′ → length mem′ ≡ length mem
+  steps-long true mem shown f =
+      ap length (f .memory) ∙ seam-long mem (turnedAt d at regs mem table .memory) (at .m) (turned-long d (planAt d at regs mem table) (seen at regs mem))
+  steps-long false mem shown f = ap length (f .memory)

@@ -4,7 +4,7 @@ use mathlib.Core.Bool.{Bool, true, false, not, _&&_, true≢false}
 use mathlib.Core.List.{List}
 use Prim.Native.Nat.{ℕ, _^_, _<_, _≤_}
 use native.Mathlib.Omega.{arith}
-use lib.Dec.{eqb, ltb, leb}
+use lib.Dec.{eqb, leb}
 use lib.ListN.{length, getD, set, length-set}
 use lib.Seq.{getD-set-same, getD-set-other}
 use borrow.Author.Tests.{ltb-true, leb-true, eqb-true}
@@ -19,8 +19,8 @@ use Rattle.step.specs.declared.Effect.{Effect}
 use Rattle.step.specs.declared.Effect.the-variants.{Nothing, Write, WriteTwo, SwapWord, SetNode}
 use Rattle.step.specs.declared.Attempt.{Attempt}
 use Rattle.step.specs.declared.Attempt.the-variants.{Refused, Does}
-use Rattle.step.specs.View.{View, Words, Bounds, reg, flip}
-use Rattle.step.specs.Step.{shifted, marked, written, stored, performed, refuse, isReady, attempt}
+use Rattle.step.specs.View.{View, Bounds, reg, flip}
+use Rattle.step.specs.Step.{shifted, marked, written, performed, refuse, isReady, attempt}
 use Rattle.step.proofs.Sized.{SameSizes, marked-sizes, written-long, stored-long}
 use Rattle.step.proofs.Undo.{Fair, Undone, undone, refused-no, inside, passed, set-back, words-set, shifted-word, shifted-back}
 use Rattle.step.specs.Sizes.{inRange, badSizes}
@@ -289,3 +289,7 @@ turn-back t d s {e} g h =
     let a = accepted t d s g h in
     let r = turned-back t d s g e a in
     record { by = back t d s g e a .by; plan = r .0; home = r .1; bounds = r .2 }
+
+-- and what it does to the memory is within the data that is there
+pub plan-fair : (t : List ℕ) (d : Direction) (s : View) {e : Effect} → Bounds s → planned t d s ≡ Does e → Fair e (s .at) × (s .at .m ≤ length (s .memory))
+plan-fair t d s {e} g h = let a = accepted t d s g h in (back t d s g e a .fair, room-of t (s .at) (s .memory) (a .sizes))

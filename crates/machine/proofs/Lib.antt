@@ -7,3 +7,4 @@ pub mod Given
 pub mod Runs
 pub mod Marks
 pub mod Instruction
+pub mod Shown

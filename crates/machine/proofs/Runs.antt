@@ -1,24 +1,28 @@
 -- What a loop of turns keeps, either way. Assumes nothing.
-use mathlib.Core.Path.{_≡_, refl, sym, ap, _∙_, subst}
+use mathlib.Core.Path.{_≡_, refl, sym, ap, ap₂, _∙_, subst, subst₂}
+use mathlib.Core.Bool.{Bool, true, false, true≢false, _&&_}
 use mathlib.Core.Logic.{_≢_}
 use mathlib.Core.List.{List}
 use Prim.Native.Nat.{ℕ, zero, suc, _+_, _<_, _≤_}
 use native.Mathlib.Omega.{arith}
 use native.Mathlib.Decide.{decLe}
 use native.Mathlib.Numerals.{add-one}
-use lib.Dec.{ltb}
+use lib.Dec.{eqb, ltb}
 use lib.ListN.{length}
-use borrow.Author.Tests.{lt-ltb, le-ltb}
+use borrow.Author.Tests.{lt-ltb, le-ltb, eqb-true, eq-eqb}
 use Rattle.word.specs.Word.{pick}
 use Rattle.step.specs.declared.Status.{Status}
 use Rattle.step.specs.declared.Direction.{Direction}
+use Rattle.word.proofs.Words.{and-true}
+use Rattle.step.specs.declared.Store.{Store}
 use Rattle.step.specs.View.{Bounds}
 use Rattle.step.proofs.Sized.{SameSizes}
 use Rattle.machine.specs.Calls.{Machine, machineOf, statusOf, updated, viewOf, TurnPromise, refusal, next}
-use Rattle.machine.specs.InPlace.{Steps}
+use Rattle.machine.specs.InPlace.{Steps, batchIn, Runs}
 use Rattle.machine.specs.Batch.{after, Count, batchOf, BatchPromise}
 use Rattle.machine.specs.declared.Record.{Record}
 use Rattle.machine.specs.declared.Batch.{Batch}
+use Rattle.machine.specs.declared.Ran.{Ran}
 use Rattle.machine.proofs.InPlace.{steps-regs, steps-long}
 use Rattle.machine.proofs.Claims.{same-status, refused-keeps, next-sizes, next-long}
 
@@ -93,7 +97,7 @@ pub record Loop (table : List ℕ) (d : Direction) (n : ℕ) (r : Record) (mem�
   pub sixteen : length regs ≡ 16
   pub bounds : Bounds (viewOf r mem₀)
 
-pub loop-starts : {table : List ℕ} {d : Direction} {n : ℕ} {r : Record} {mem : List ℕ} {at : Status} → at ≡ statusOf r → Bounds (viewOf r mem)
+loop-starts : {table : List ℕ} {d : Direction} {n : ℕ} {r : Record} {mem : List ℕ} {at : Status} → at ≡ statusOf r → Bounds (viewOf r mem)
     → Loop table d n r mem at (r .regs) mem 0
 loop-starts {table} {d} {n} {r} {mem} e g =
     subst (λ (a : Status). Loop table d n r mem a (r .regs) mem 0) (sym e)
@@ -107,36 +111,31 @@ module _ {table : List ℕ} {d : Direction} {n : ℕ} {r : Record} {mem₀ : Lis
   abbrev y : Machine
   y = machineOf (updated r at regs) mem
 
-  -- the promise, of an answer b after k turns with refusal w
+  -- the promise, of a run that made k turns and was refused by w
   abbrev Out : ℕ → ℕ → Record → List ℕ → Type 0
   Out k w r′ mem′ = Count table d n x k × (w ≡ batchOf d n k r mem₀ table .refusal) × (machineOf r′ mem′ ≡ after table d k x)
 
-  promised : (k w : ℕ) (r′ : Record) (mem′ : List ℕ) (b : Batch) → Out k w r′ mem′ → b ≡ record { turns = k; refusal = w; state = r′ }
-      → BatchPromise d n r mem₀ table b mem′
-  promised k w r′ mem′ b h p =
-      subst (λ (z : Batch). BatchPromise d n r mem₀ table z mem′) (sym p)
-      (record {
+  promised : (k w : ℕ) (r′ : Record) (mem′ : List ℕ) → Out k w r′ mem′ → BatchPromise d n r mem₀ table (record { turns = k; refusal = w; state = r′ }) mem′
+  promised k w r′ mem′ h =
+      record {
         count = h .0;
         answer = λ j. record { turns = k; refusal = h .1 j; state = h .2 j .state };
         memory = ap (λ (u : Machine). u .memory) (h .2);
         bounds = inv .bounds;
-      })
+      }
 
-  pub done : {b : Batch} → n ≤ i → b ≡ record { turns = i; refusal = 0; state = updated r at regs } → BatchPromise d n r mem₀ table b mem
-  done {b} h p = promised i 0 (updated r at regs) mem b (ended table d n x y i (inv .run) h) p
+  done : n ≤ i → BatchPromise d n r mem₀ table (record { turns = i; refusal = 0; state = updated r at regs }) mem
+  done h = promised i 0 (updated r at regs) mem (ended table d n x y i (inv .run) h)
 
-  module _ {w : ℕ} {at′ : Status} {regs′ mem′ : List ℕ} (f : Steps d at regs mem table w at′ regs′ mem′) where
+  module _ {w : ℕ} {at′ : Status} {s : Store} {regs′ mem′ : List ℕ} (f : Steps true d at regs mem mem table w at′ s regs′ mem′) where
     -- the turn in place is the turn of the whole record
-    whole : Steps d (statusOf (y .state)) regs mem table w at′ regs′ mem′
-    whole = subst (λ (a : Status). Steps d a regs mem table w at′ regs′ mem′) (sym (same-status r at regs (inv .sizes))) f
+    whole : Steps true d (statusOf (y .state)) regs mem mem table w at′ s regs′ mem′
+    whole = subst (λ (a : Status). Steps true d a regs mem mem table w at′ s regs′ mem′) (sym (same-status r at regs (inv .sizes))) f
 
     stepped : next table d y ≡ machineOf (updated r at′ regs′) mem′
     stepped = sym (λ j. machineOf (updated r (whole .status j) (whole .registers j)) (whole .memory j))
 
-    pub kept-long : length mem′ ≡ length mem₀
-    kept-long = steps-long f ∙ inv .run .long
-
-    pub again : i < n → w ≡ 0 → Loop table d n r mem₀ at′ regs′ mem′ (i + 1)
+    again : i < n → w ≡ 0 → Loop table d n r mem₀ at′ regs′ mem′ (i + 1)
     again h z =
         let s = next-sizes table d y in
         record {
@@ -146,10 +145,60 @@ module _ {table : List ℕ} {d : Direction} {n : ℕ} {r : Record} {mem₀ : Lis
           bounds = inv .bounds;
         }
 
-    pub stop : {b : Batch} → i < n → w ≢ 0 → b ≡ record { turns = i; refusal = w; state = updated r at′ regs′ } → BatchPromise d n r mem₀ table b mem′
-    stop {b} h z p =
+    stop : i < n → w ≢ 0 → BatchPromise d n r mem₀ table (record { turns = i; refusal = w; state = updated r at′ regs′ }) mem′
+    stop h z =
         let l = stopped table d n x y i (inv .run) h (λ q. z (whole .refusal ∙ q)) in
-        promised i w (updated r at′ regs′) mem′ b (l .0, whole .refusal ∙ l .1, sym stepped ∙ l .2) p
+        promised i w (updated r at′ regs′) mem′ (l .0, whole .refusal ∙ l .1, sym stepped ∙ l .2)
+
+-- ---- a run that may be live or not
+
+-- the invariant: as above, and one that is not live has made no turn
+pub record Running (live : Bool) (table : List ℕ) (d : Direction) (n : ℕ) (r : Record) (mem₀ : List ℕ) (at : Status) (regs mem : List ℕ) (i : ℕ) : Type 0 where
+  pub loop : Loop table d n r mem₀ at regs mem i
+  pub first : live ≡ false → (i ≡ 0) × (at ≡ statusOf r) × (regs ≡ r .regs)
+
+pub running-starts : {live : Bool} {table : List ℕ} {d : Direction} {n : ℕ} {r : Record} {mem : List ℕ} {at : Status} → at ≡ statusOf r → Bounds (viewOf r mem)
+    → Running live table d n r mem at (r .regs) mem 0
+running-starts e g = record { loop = loop-starts e g; first = λ l. (refl, e, refl) }
+
+module _ (live : Bool) (mem shown : List ℕ) {table : List ℕ} {d : Direction} {n : ℕ} {r : Record} {mem₀ : List ℕ} {at : Status} {regs : List ℕ} {i : ℕ}
+    (inv : Running live table d n r mem₀ at regs mem i) where
+  pub run-done : {a : Ran} {k : Store} → n ≤ i → a ≡ record { turns = i; refusal = 0; state = updated r at regs; store = k } → Runs live d n r mem₀ shown table a mem
+  run-done h p =
+      record {
+        batch = λ l. subst (λ (b : Batch). BatchPromise d n r mem₀ table b mem) (sym (ap batchIn p)) (done (inv .loop) h);
+        first = λ l k. let z = inv .first l .0 in absurd (omega (arith, z));
+      }
+
+  module _ {w : ℕ} {at′ : Status} {s : Store} {regs′ mem′ : List ℕ} (f : Steps live d at regs mem (pick live mem shown) table w at′ s regs′ mem′) where
+    lived : live ≡ true → Steps true d at regs mem mem table w at′ s regs′ mem′
+    lived l = subst (λ (b : Bool). Steps b d at regs mem (pick b mem shown) table w at′ s regs′ mem′) l f
+
+    showed : live ≡ false → Steps false d (statusOf r) (r .regs) mem shown table w at′ s regs′ mem′
+    showed l =
+        let q = inv .first l in
+        subst₂ (λ (a : Status) (g : List ℕ). Steps false d a g mem shown table w at′ s regs′ mem′) (q .1) (q .2)
+        (subst (λ (b : Bool). Steps b d at regs mem (pick b mem shown) table w at′ s regs′ mem′) l f)
+
+    pub run-long : length mem′ ≡ length mem₀
+    run-long = steps-long live mem shown f ∙ inv .loop .run .long
+
+    -- it goes on where the turn is accepted and live
+    pub run-again : i < n → eqb w 0 && live ≡ true → Running live table d n r mem₀ at′ regs′ mem′ (i + 1)
+    run-again h z =
+        let q = and-true (eqb w 0) live z in
+        record { loop = again (inv .loop) (lived (q .1)) h (eqb-true w 0 (q .0)); first = λ l. absurd (true≢false (sym (q .1) ∙ l)) }
+
+    pub run-stop : {a : Ran} → i < n → eqb w 0 && live ≡ false → a ≡ record { turns = i; refusal = w; state = updated r at′ regs′; store = s }
+        → Runs live d n r mem₀ shown table a mem′
+    run-stop {a} h z p =
+        record {
+          batch = λ l. subst (λ (b : Batch). BatchPromise d n r mem₀ table b mem′) (sym (ap batchIn p)) (stop (inv .loop) (lived l) h (refused l));
+          first = λ l k. let g = showed l in p ∙ (λ j. record { turns = inv .first l .0 j; refusal = g .refusal j; state = updated r (g .status j) (g .registers j); store = g .store j });
+        }
+      where
+        refused : live ≡ true → w ≢ 0
+        refused l e = true≢false (sym (ap₂ (λ (b c : Bool). b && c) (eq-eqb w 0 e) l) ∙ z)
 
 -- a batch of one is a single turn
 single : (d : Direction) (r : Record) (mem table : List ℕ) (k : ℕ) → Count table d 1 (machineOf r mem) k

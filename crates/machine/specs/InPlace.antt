@@ -1,16 +1,26 @@
--- What the parts of a turn in place promise (src/cycle.rt): of a status, and of registers, memory and table that are lent.
-use Prim.Native.Nat.{ℕ}
+-- What the parts of a turn in place promise (src/cycle.rt), and a run of turns (src/lib.rt): of a status, and of registers,
+-- memory and table that are lent.
+use Prim.Native.Nat.{ℕ, _<_}
 use mathlib.Core.Path.{_≡_}
+use mathlib.Core.Bool.{Bool, true, false}
 use mathlib.Core.List.{List, _++_}
 use lib.ListN.{take, drop, set}
+use Rattle.word.specs.Word.{pick}
 use Rattle.step.specs.declared.Status.{Status}
 use Rattle.step.specs.declared.Direction.{Direction}
 use Rattle.step.specs.declared.Effect.{Effect}
 use Rattle.step.specs.declared.Attempt.{Attempt}
 use Rattle.step.specs.declared.Attempt.the-variants.{Does}
+use Rattle.step.specs.declared.Store.{Store}
 use Rattle.step.specs.View.{View, seen}
-use Rattle.step.specs.Step.{written, stored, performed, number}
+use Rattle.step.specs.Step.{written, noStore, storeOf, stored, performed, number}
 use Rattle.machine.specs.Turn.{from, newPc, planAt, turnedAt}
+use Rattle.machine.specs.Calls.{turnOf}
+use Rattle.machine.specs.Batch.{BatchPromise}
+use Rattle.machine.specs.Preview.{plannedStore, storeBy}
+use Rattle.machine.specs.declared.Record.{Record}
+use Rattle.machine.specs.declared.Batch.{Batch}
+use Rattle.machine.specs.declared.Ran.{Ran}
 
 -- pc after what a does, if it does anything
 pub record PcAfter (d : Direction) (s : View) (a : Attempt) (new : ℕ) : Type 0 where
@@ -27,9 +37,32 @@ pub record Performs (e : Effect) (new m : ℕ) (regs mem regs′ mem′ : List �
   pub registers : regs′ ≡ set (written e regs (take m mem)) 0 new
   pub memory : mem′ ≡ stored e regs (take m mem) ++ drop m mem
 
--- the turn: its refusal w, and the status, registers and memory after it
-pub record Steps (d : Direction) (at : Status) (regs mem table : List ℕ) (w : ℕ) (at′ : Status) (regs′ mem′ : List ℕ) : Type 0 where
-  pub refusal : w ≡ number (planAt d at regs mem table)
-  pub status : at′ ≡ turnedAt d at regs mem table .at
-  pub registers : regs′ ≡ turnedAt d at regs mem table .regs
-  pub memory : mem′ ≡ turnedAt d at regs mem table .memory ++ drop (at .m) mem
+-- the effect e on the registers alone, with pc after it, and the word that it would store
+pub record Shows (e : Effect) (new m : ℕ) (regs mem : List ℕ) (w : Store) (regs′ : List ℕ) : Type 0 where
+  pub registers : regs′ ≡ set (written e regs (take m mem)) 0 new
+  pub store : w ≡ storeOf e regs
+
+-- The turn over the memory read: its refusal w, and the status, registers and memory after it. One that is not live leaves the
+-- memory mem, and tells what it would store.
+pub record Steps (live : Bool) (d : Direction) (at : Status) (regs mem read table : List ℕ) (w : ℕ) (at′ : Status) (s : Store) (regs′ mem′ : List ℕ) : Type 0 where
+  pub refusal : w ≡ number (planAt d at regs read table)
+  pub status : at′ ≡ turnedAt d at regs read table .at
+  pub registers : regs′ ≡ turnedAt d at regs read table .regs
+  pub memory : mem′ ≡ pick live (turnedAt d at regs read table .memory ++ drop (at .m) mem) mem
+  pub store : s ≡ pick live noStore (plannedStore (planAt d at regs read table) (from d (seen at regs read)))
+
+-- ---- a run of turns
+
+abbrev pub batchIn : Ran → Batch
+batchIn a = record { turns = a .turns; refusal = a .refusal; state = a .state }
+
+-- the first turn, and what it would store
+abbrev pub firstOf : Direction → Record → List ℕ → List ℕ → Ran
+firstOf d r mem table =
+    let t = turnOf d r mem table in
+    record { turns = 0; refusal = t .refusal; state = t .state; store = storeBy d r mem table }
+
+-- one that is live is a batch of n; one that is not answers the first turn
+pub record Runs (live : Bool) (d : Direction) (n : ℕ) (r : Record) (mem shown table : List ℕ) (a : Ran) (mem′ : List ℕ) : Type 0 where
+  pub batch : live ≡ true → BatchPromise d n r mem table (batchIn a) mem′
+  pub first : live ≡ false → 0 < n → a ≡ firstOf d r shown table

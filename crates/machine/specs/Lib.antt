@@ -1,6 +1,7 @@
 pub mod Turn
-pub mod InPlace
 pub mod Calls
 pub mod Claims
 pub mod Batch
+pub mod Preview
+pub mod InPlace
 pub mod Marks

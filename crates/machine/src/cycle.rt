@@ -2,28 +2,41 @@
 // of turns neither copies nor rebuilds the record. Each big function has one caller, and is inlined.
 ghost use mathlib.Core.Path.{_≡_};
 ghost use lib.ListN.{take};
+ghost use Rattle.word.specs.Word.{pick};
 ghost use Rattle.step.specs.View.{seen, nodes};
 ghost use Rattle.step.specs.declared.Direction.{Direction};
 ghost use Rattle.machine.specs.Turn.{movedPc, fromPc, toPc, starts, landed, judged, executed};
-ghost use Rattle.machine.specs.InPlace.{PcAfter, Plans, Performs, Steps};
+ghost use Rattle.machine.specs.InPlace.{PcAfter, Plans, Performs, Shows, Steps};
 use step::Attempt;
 use step::Direction;
 use step::Effect;
 use step::Status;
+use step::Store;
 use step::lent::look;
 use step::lent::put;
+use step::lent::select;
 use step::lent::word_at;
 use step::operation::attempt;
 use step::operation::refused_if;
 use step::perform::after;
 use step::perform::apply;
+use step::perform::no_store;
 use step::perform::status_after;
+use step::perform::store_of;
+use step::perform::write;
 use step::sizes::are_bad_sizes;
 
-// What a turn in place answers: the refusal and the new status.
+// What a turn in place answers: the refusal, the new status, and what it would store if it is not live.
 pub struct Stepped {
     pub refusal: u32,
     pub at: Status,
+    pub store: Store,
+}
+
+fn answer(refusal: u32, at: Status, store: Store) -> Stepped
+    ensures { λ r. ⌜ r ≡ record { refusal = refusal; at = at; store = store } ⌝ }
+{
+    Stepped { refusal, at, store }
 }
 
 // ---- pc
@@ -167,24 +180,45 @@ fn perform(e: Effect, next: u32, m: u32, regs: &mut [u32], mem: &mut [u32])
     put(regs, 0, next);
 }
 
-pub fn turn(d: Direction, at: Status, regs: &mut [u32], mem: &mut [u32], table: &[u32]) -> Stepped
-    ensures { λ r. ⌜ Steps d at (now (regs .entry)) (now (mem .entry)) (now (table .entry)) (r .refusal) (r .at) (now (regs .exit)) (now (mem .exit)) ⌝ }
+// The effect on the registers, and the memory word that it would store.
+fn show(e: Effect, next: u32, m: u32, regs: &mut [u32], mem: &[u32]) -> Store
+    ensures { λ r. ⌜ Shows e next m (now (regs .entry)) (now (mem .entry)) r (now (regs .exit)) ⌝ }
+{
+    let s = store_of(e, regs);
+    write(e, regs, mem, m);
+    put(regs, 0, next);
+    s
+}
+
+// One turn of mem if it is live, else one of shown, which is only read.
+pub fn turn(
+    d: Direction,
+    live: bool,
+    at: Status,
+    regs: &mut [u32],
+    mem: &mut [u32],
+    shown: &[u32],
+    table: &[u32],
+) -> Stepped
+    ensures { λ r. ⌜ Steps live d at (now (regs .entry)) (now (mem .entry)) (pick live (now (mem .entry)) (now (shown .entry))) (now (table .entry)) (r .refusal) (r .at) (r .store) (now (regs .exit)) (now (mem .exit)) ⌝ }
 {
     let old = look(regs, 0);
-    let p = plan(d, at, regs, mem, table);
+    let words = select(live, mem, shown);
+    let p = plan(d, at, regs, words, table);
     let next = p.next;
     let a = p.attempt;
     match a {
         Attempt::Refused(n) => {
             put(regs, 0, old);
-            Stepped { refusal: n, at }
+            answer(n, at, no_store())
         }
         Attempt::Does(e) => {
-            perform(e, next, at.m, regs, mem);
-            Stepped {
-                refusal: 0,
-                at: status_after(e, at),
+            let then = status_after(e, at);
+            if live {
+                perform(e, next, at.m, regs, mem);
+                return answer(0, then, no_store());
             }
+            answer(0, then, show(e, next, at.m, regs, shown))
         }
     }
 }

@@ -1,15 +1,19 @@
 // The register record and its turns.
 ghost use mathlib.Core.Path.{_≡_};
-ghost use mathlib.Core.List.{_∷_, []};
 ghost use Rattle.qins.specs.Decode.{isInstruction};
 ghost use Rattle.step.specs.declared.Direction.{Direction};
 ghost use Rattle.machine.specs.Calls.{statusOf, updated, zeros, wrongSizes, TurnPromise};
 ghost use Rattle.machine.specs.Batch.{BatchPromise};
+ghost use Rattle.machine.specs.Preview.{reported, PreviewPromise};
+ghost use Rattle.machine.specs.InPlace.{Runs};
 
 mod cycle;
 
 use step::Direction;
 use step::Status;
+use step::Store;
+use step::lent::word_at;
+use step::perform::no_store;
 
 // Document 01's record: registers 0 pc, 1 br, 2 ro, 3 sp, 4-15 r1-r12; the node qifv and the wait
 // count qifw; and the sizes: K words of code, M of memory, N nodes.
@@ -36,6 +40,39 @@ pub struct Batch {
     pub turns: u32,
     pub refusal: u32,
     pub state: Record,
+}
+
+// What a preview answers: the turn's refusal; whether it would change a memory word, 1 or 0, that word's
+// address and new value, 0 where it would not; and the record after the turn.
+#[repr(C)]
+pub struct Preview {
+    pub refusal: u32,
+    pub changes: u32,
+    pub address: u32,
+    pub value: u32,
+    pub state: Record,
+}
+
+// What a run comes to: as a batch answers, and what its turn would store if it is not live.
+struct Ran {
+    turns: u32,
+    refusal: u32,
+    state: Record,
+    store: Store,
+}
+
+// What a preview reports: the turn, and the word that it would store where another one is present.
+fn report(refusal: u32, state: Record, s: Store, present: u32) -> Preview
+    ensures { λ r. ⌜ r ≡ reported refusal state s present ⌝ }
+{
+    let changes = word::both(s.made, present != s.value);
+    Preview {
+        refusal,
+        changes: word::choose(changes, 1, 0),
+        address: word::choose(changes, s.address, 0),
+        value: word::choose(changes, s.value, 0),
+        state,
+    }
 }
 
 impl Record {
@@ -83,14 +120,15 @@ impl Record {
         next
     }
 
-    fn answer(self, turns: u32, refusal: u32, at: Status, regs: [u32; 16]) -> Batch
-        ensures { λ r. ⌜ r ≡ record { turns = turns; refusal = refusal; state = updated self at regs } ⌝ }
+    fn answer(self, turns: u32, refusal: u32, at: Status, regs: [u32; 16], store: Store) -> Ran
+        ensures { λ r. ⌜ r ≡ record { turns = turns; refusal = refusal; state = updated self at regs; store = store } ⌝ }
     {
         let state = self.update(at, regs);
-        Batch {
+        Ran {
             turns,
             refusal,
             state,
+            store,
         }
     }
 
@@ -101,37 +139,73 @@ impl Record {
         step::sizes::are_bad_sizes(self.status(), mem, table)
     }
 
-    // Turns until n are made or one is refused. The registers are taken out of the record once and put
-    // back once, and the turn has this one caller, so that it is inlined into the loop.
-    fn run(self, d: Direction, n: u32, mem: &mut [u32], table: &[u32]) -> Batch
-        ensures { λ r. ⌜ BatchPromise d n self (now (mem .entry)) (now (table .entry)) r (now (mem .exit)) ⌝ }
+    // Turns until n are made or one is refused; where it is not live, it answers the first turn of them,
+    // made over shown, which is only read. The registers are taken out of the record once and put back
+    // once. The turn has this one caller, whatever is asked, so that it is inlined into the loop.
+    fn run(
+        self,
+        d: Direction,
+        n: u32,
+        live: bool,
+        mem: &mut [u32],
+        shown: &[u32],
+        table: &[u32],
+    ) -> Ran
+        ensures { λ r. ⌜ Runs live d n self (now (mem .entry)) (now (shown .entry)) (now (table .entry)) r (now (mem .exit)) ⌝ }
     {
         let mut regs = self.regs;
         let mut at = self.status();
         let mut i = 0;
         while i < n {
-            let t = cycle::turn(d, at, &mut regs, mem, table);
+            let t = cycle::turn(d, live, at, &mut regs, mem, shown, table);
             let refusal = t.refusal;
             let next = t.at;
-            if refusal != 0 {
-                return self.answer(i, refusal, next, regs);
+            let store = t.store;
+            if !word::both(refusal == 0, live) {
+                return self.answer(i, refusal, next, regs, store);
             }
             at = next;
             i += 1;
         }
-        self.answer(i, 0, at, regs)
+        self.answer(i, 0, at, regs, no_store())
     }
 
-    // One turn: a run of one, so that the cycle keeps its one caller.
+    fn batch(self, d: Direction, n: u32, mem: &mut [u32], table: &[u32]) -> Batch
+        ensures { λ r. ⌜ BatchPromise d n self (now (mem .entry)) (now (table .entry)) r (now (mem .exit)) ⌝ }
+    {
+        let none = [0; 0];
+        let r = self.run(d, n, true, mem, &none, table);
+        let state = r.state;
+        Batch {
+            turns: r.turns,
+            refusal: r.refusal,
+            state,
+        }
+    }
+
+    // One turn: a run of one, not by way of a batch, whose record would be one copy more.
     fn turn(self, d: Direction, mem: &mut [u32], table: &[u32]) -> Turned
         ensures { λ r. ⌜ TurnPromise d self (now (mem .entry)) (now (table .entry)) r (now (mem .exit)) ⌝ }
     {
-        let b = self.run(d, 1, mem, table);
-        let state = b.state;
+        let none = [0; 0];
+        let r = self.run(d, 1, true, mem, &none, table);
+        let state = r.state;
         Turned {
-            refusal: b.refusal,
+            refusal: r.refusal,
             state,
         }
+    }
+
+    // One turn, shown: a run that is not live.
+    fn preview(self, d: Direction, mem: &[u32], table: &[u32]) -> Preview
+        ensures { λ r. ⌜ PreviewPromise d self (now (mem .entry)) (now (table .entry)) r ⌝ }
+    {
+        let mut none = [0; 0];
+        let r = self.run(d, 1, false, &mut none, mem, table);
+        let state = r.state;
+        let s = r.store;
+        let present = word_at(mem, self.m, s.address);
+        report(r.refusal, state, s, present)
     }
 
     // One turn forward.
@@ -148,18 +222,32 @@ impl Record {
         self.turn(Direction::Back, mem, table)
     }
 
+    // The turn forward, shown and not made.
+    pub fn preview_forward(self, mem: &[u32], table: &[u32]) -> Preview
+        ensures { λ r. ⌜ PreviewPromise Direction.Forward self (now (mem .entry)) (now (table .entry)) r ⌝ }
+    {
+        self.preview(Direction::Forward, mem, table)
+    }
+
+    // The turn back, shown and not made.
+    pub fn preview_back(self, mem: &[u32], table: &[u32]) -> Preview
+        ensures { λ r. ⌜ PreviewPromise Direction.Back self (now (mem .entry)) (now (table .entry)) r ⌝ }
+    {
+        self.preview(Direction::Back, mem, table)
+    }
+
     // Up to n turns forward. How many, k, is free within Count; all else follows from it.
     pub fn forward_batch(self, n: u32, mem: &mut [u32], table: &[u32]) -> Batch
         ensures { λ r. ⌜ BatchPromise Direction.Forward n self (now (mem .entry)) (now (table .entry)) r (now (mem .exit)) ⌝ }
     {
-        self.run(Direction::Forward, n, mem, table)
+        self.batch(Direction::Forward, n, mem, table)
     }
 
     // Up to n turns back.
     pub fn back_batch(self, n: u32, mem: &mut [u32], table: &[u32]) -> Batch
         ensures { λ r. ⌜ BatchPromise Direction.Back n self (now (mem .entry)) (now (table .entry)) r (now (mem .exit)) ⌝ }
     {
-        self.run(Direction::Back, n, mem, table)
+        self.batch(Direction::Back, n, mem, table)
     }
 }
 

@@ -1,0 +1,70 @@
+-- The next turn, shown before it is made (document 02, #102): the turn's own plan, answered; the memory is only read.
+use Prim.Native.Nat.{ℕ, _<_, _≤_}
+use mathlib.Core.Path.{_≡_}
+use mathlib.Core.Logic.{_≢_}
+use mathlib.Core.Bool.{Bool, not, _&&_}
+use mathlib.Core.List.{List}
+use lib.Dec.{eqb}
+use lib.ListN.{getD, set, take}
+use Rattle.word.specs.Word.{pick}
+use Rattle.step.specs.declared.Direction.{Direction}
+use Rattle.step.specs.declared.Attempt.{Attempt}
+use Rattle.step.specs.declared.Attempt.the-variants.{Refused, Does}
+use Rattle.step.specs.declared.Store.{Store}
+use Rattle.step.specs.View.{View, Bounds}
+use Rattle.step.specs.Step.{noStore, storeOf}
+use Rattle.machine.specs.Turn.{from}
+use Rattle.machine.specs.Calls.{viewOf, planOf, turnOf, TurnPromise}
+use Rattle.machine.specs.declared.Record.{Record}
+use Rattle.machine.specs.declared.Turned.{Turned}
+use Rattle.machine.specs.declared.Preview.{Preview}
+
+-- the memory word that a plan would store, in the view s that its word finds
+abbrev pub plannedStore : Attempt → View → Store
+plannedStore (Refused n) s = noStore
+plannedStore (Does e) s = storeOf e (s .regs)
+
+abbrev pub storeBy : Direction → Record → List ℕ → List ℕ → Store
+storeBy d r mem table = plannedStore (planOf d r mem table) (from d (viewOf r mem))
+
+-- what is reported of a turn with this refusal and record, which stores s where the word present is: a word changes if it is
+-- another one
+abbrev pub changes : Store → ℕ → Bool
+changes s present = s .made && not (eqb present (s .value))
+
+abbrev pub reported : ℕ → Record → Store → ℕ → Preview
+reported refusal r s present =
+    let c = changes s present in
+    record { refusal = refusal; changes = pick c 1 0; address = pick c (s .address) 0; value = pick c (s .value) 0; state = r }
+
+-- the answer: the refusal and the record of the turn, and the word that it would change
+abbrev pub previewOf : Direction → Record → List ℕ → List ℕ → Preview
+previewOf d r mem table =
+    let t = turnOf d r mem table in
+    let s = storeBy d r mem table in
+    reported (t .refusal) (t .state) s (getD (take (r .m) mem) (s .address) 0)
+
+-- What a preview from r, mem and table promises of its answer; and the bounds of its arguments, as of a turn's.
+pub record PreviewPromise (d : Direction) (r : Record) (mem table : List ℕ) (p : Preview) : Type 0 where
+  pub answer : p ≡ previewOf d r mem table
+  pub bounds : Bounds (viewOf r mem)
+
+-- ---- what is claimed: a preview p is the turn made on a copy, with answer a and memory mem′. Proved in proofs/Shown.
+
+-- the memory with the reported word set
+abbrev pub reportedIn : Preview → List ℕ → List ℕ
+reportedIn p mem = pick (eqb (p .changes) 1) (set mem (p .address) (p .value)) mem
+
+pub record ShowsTurn (r : Record) (mem : List ℕ) (p : Preview) (a : Turned) (mem′ : List ℕ) : Type 0 where
+  pub answer : a ≡ record { refusal = p .refusal; state = p .state }
+  pub memory : mem′ ≡ reportedIn p mem
+  -- what is reported is a data word that changes
+  pub inside : p .changes ≡ 1 → (r .k ≤ p .address) × (p .address < r .m)
+  pub new : p .changes ≡ 1 → (getD mem′ (p .address) 0 ≡ p .value) × (p .value ≢ getD mem (p .address) 0)
+  -- and else nothing is
+  pub none : p .changes ≢ 1 → (p .changes ≡ 0) × (p .address ≡ 0) × (p .value ≡ 0)
+
+abbrev pub Previews : Type 0
+Previews =
+    (d : Direction) (r : Record) (mem table : List ℕ) (p : Preview) (a : Turned) (mem′ : List ℕ)
+    → PreviewPromise d r mem table p → TurnPromise d r mem table a mem′ → ShowsTurn r mem p a mem′
