@@ -1,5 +1,5 @@
 -- Left and Right. Assumes nothing.
-use mathlib.Core.Path.{_≡_, refl, sym, ap, ap₂, _∙_, subst}
+use mathlib.Core.Path.{_≡_, refl, sym, ap, ap₂, _∙_, subst, subst₂}
 use mathlib.Core.Bool.{Bool, true, false}
 use mathlib.Core.List.{List}
 use Prim.Native.Nat.{ℕ, zero, suc, _+_, _-_, _<_, _≤_}
@@ -11,7 +11,6 @@ use borrow.Author.Tests.{eqb-true, eqb-false}
 use Rattle.word.specs.Word.{pick}
 use Rattle.step.specs.declared.Direction.{Direction}
 use Rattle.step.specs.declared.Direction.the-variants.{Forward, Back}
-use Rattle.step.specs.declared.Attempt.{Attempt}
 use Rattle.step.specs.Table.{tableWords}
 use Rattle.step.specs.View.{View, byWay}
 use Rattle.step.specs.Step.{number}
@@ -23,7 +22,7 @@ use Rattle.machine.specs.declared.Turned.{Turned}
 use Rattle.machine.specs.declared.Batch.{Batch}
 use Rattle.machine.proofs.Claims.{next-view, next-excess, refused-keeps, turn-home}
 use Rattle.lists.specs.Lists.{Call, Left, Straight, Alike, AlikeTables, Right, LeftAndRight}
-use Rattle.lists.specs.Lists.Call.{single, batch, samples}
+use Rattle.lists.specs.Lists.Call.{single, batch, samples, reads}
 use Rattle.lists.specs.Lists.Left.{empty, then}
 use Rattle.lists.specs.Lists.Straight.{none, turn}
 use Rattle.lists.proofs.Reversible as R
@@ -75,6 +74,7 @@ module _ (table : List ℕ) where
   go-on t (batch d n y a mem p) = R.then-run Machine Accepts (next table) Bounded (turn-home table) d (a .turns) t (p .bounds) (batch-run p)
   go-on {x = x} t (samples given l y a mem p) =
       by-turns table (λ f b z. Tour f b x z) (λ d f b z a mem u h. turn-on u h) t (call-turns table given l (y .state) (y .memory) p)
+  go-on {x = x} {f = f} {b = b} t (reads y h) = subst₂ (λ (i j : ℕ). Tour i j x y) (omega arith) (omega arith) t
 
   tour : {x y : Machine} {f b : ℕ} → Left table x f b y → Tour f b x y
   tour empty = R.Tour.empty

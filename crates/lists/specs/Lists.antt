@@ -9,16 +9,22 @@ use Rattle.step.specs.Table.{tableWords}
 use Rattle.step.specs.View.{byWay}
 use Rattle.machine.specs.Calls.{Machine, machineOf, TurnPromise, accepted, Leads}
 use Rattle.machine.specs.Batch.{BatchPromise}
+use Rattle.machine.specs.Preview.{PreviewPromise}
 use Rattle.machine.specs.declared.Turned.{Turned}
 use Rattle.machine.specs.declared.Batch.{Batch}
+use Rattle.machine.specs.declared.Preview.{Preview}
 use Rattle.wheel.specs.Wheel.{WheelPromise}
 use Rattle.wheel.specs.declared.Wheeled.{Wheeled}
 
 -- ---- Left: a list of calls
 
+-- A call from x that turns nothing: the record goes by value, memory and table are lent for reading only.
+pub data Reading (table : List ℕ) (x : Machine) : Type 0 where
+  preview : (d : Direction) (a : Preview) → PreviewPromise d (x .state) (x .memory) table a → Reading table x
+
 -- One call from x: its accepted turns forward and back, and the machine that it leaves, with what it promises of the
 -- answer a and of the memory at exit. A single turn counts its acceptance, a batch counts its k, this way alone; samples
--- count what their answer says, both ways.
+-- count what their answer says, both ways. A call that turns nothing counts nothing, and leaves the machine.
 pub data Call (table : List ℕ) : Machine → ℕ → ℕ → Machine → Type 0 where
   single : (d : Direction) (x : Machine) (a : Turned) (mem : List ℕ)
       → TurnPromise d (x .state) (x .memory) table a mem
@@ -29,6 +35,7 @@ pub data Call (table : List ℕ) : Machine → ℕ → ℕ → Machine → Type 
   samples : (given : ℕ) (l : List ℕ) (x : Machine) (a : Wheeled) (mem : List ℕ)
       → WheelPromise given l (x .state) (x .memory) table a mem
       → Call table x (a .forward) (a .back) (machineOf (a .state) mem)
+  reads : (x : Machine) → Reading table x → Call table x 0 0 x
 
 -- Calls from x to y, each on what the last one left, with all accepted turns forward, f, and back, b. The list may be empty.
 pub data Left (table : List ℕ) : Machine → ℕ → ℕ → Machine → Type 0 where
