@@ -1,9 +1,9 @@
 /* The calls of the crank bench for C and C++: QINS on basis states, forward and back.
  *
- * Link libcapi.a for the turns, batches, samples and images, libsession.a for the lesson bench,
- * libprogram.a for the crank program; each is complete, and one program may link all. docs/CALLS.md
- * says how they are built, docs/MANUAL.md what the machine does and, in section 9, what each refusal
- * means. A refusal of 0 is none.
+ * Link libcapi.a for the turns, previews, batches, samples and images, libsession.a for the lesson
+ * bench, libprogram.a for the crank program; each is complete, and one program may link all.
+ * docs/CALLS.md says how they are built, docs/MANUAL.md what the machine does and, in section 9, what
+ * each refusal means. A refusal of 0 is none.
  *
  * A lent slice is a pointer and then its length in elements. The pointer is never null, not even
  * for length 0, and what a call may write overlaps nothing else that is lent to it. That apart,
@@ -46,6 +46,15 @@ typedef struct Batch {
     uint32_t refusal;
     Record state; /* the record after these turns */
 } Batch;
+
+/* What a preview answers: what the turn would do. */
+typedef struct Preview {
+    uint32_t refusal; /* the turn's */
+    uint32_t changes; /* 1 where the turn would change a word of mem, else 0 */
+    uint32_t address; /* of that word; 0 where none would change */
+    uint32_t value;   /* its new value, which is not the present one; 0 where none would change */
+    Record state;     /* the record after the turn; refused: the record given */
+} Preview;
 
 /* What encoder samples come to. */
 typedef struct Wheeled {
@@ -95,6 +104,11 @@ CRANK_LAYOUT(sizeof(Turned) == 88, "Turned: 22 words");
 CRANK_LAYOUT(offsetof(Turned, state) == 4, "Turned: record last");
 CRANK_LAYOUT(sizeof(Batch) == 92, "Batch: 23 words");
 CRANK_LAYOUT(offsetof(Batch, state) == 8, "Batch: record last");
+CRANK_LAYOUT(sizeof(Preview) == 100, "Preview: 25 words");
+CRANK_LAYOUT(offsetof(Preview, changes) == 4, "Preview: refusal first");
+CRANK_LAYOUT(offsetof(Preview, address) == 8, "Preview: then changes");
+CRANK_LAYOUT(offsetof(Preview, value) == 12, "Preview: then address and value");
+CRANK_LAYOUT(offsetof(Preview, state) == 16, "Preview: record last");
 CRANK_LAYOUT(sizeof(Wheeled) == 120, "Wheeled: 29 words, and one to fill up");
 CRANK_LAYOUT(offsetof(Wheeled, last) == 24, "Wheeled: counts first");
 CRANK_LAYOUT(offsetof(Wheeled, state) == 32, "Wheeled: record last");
@@ -106,7 +120,7 @@ CRANK_LAYOUT(sizeof(Cranked) == 8, "Cranked: 2 words");
 CRANK_LAYOUT(sizeof(Sampled) == 32, "Sampled: 8 words");
 CRANK_LAYOUT(offsetof(Sampled, last) == 24, "Sampled: counts first");
 
-/* ---- Turns, batches and samples: libcapi.a ----
+/* ---- Turns, previews, batches and samples: libcapi.a ----
  *
  * A call takes the record by value and answers with the new one. A turn is refused by 10 where k, m
  * or n of the record is out of range, mem is shorter than m words or table than 9 * n. Longer ones
@@ -126,6 +140,16 @@ Turned crank_forward(Record r, uint32_t *mem, size_t mem_len,
  * Refused: as with crank_forward. */
 Turned crank_back(Record r, uint32_t *mem, size_t mem_len,
                   const uint32_t *table, size_t table_len);
+
+/* The turn forward, shown and not made: mem is only read. It answers what crank_forward would, and
+ * which word of mem that turn would change, if it would change one: no turn changes more. A word
+ * exchanged with an equal one does not change. */
+Preview crank_preview_forward(Record r, const uint32_t *mem, size_t mem_len,
+                              const uint32_t *table, size_t table_len);
+
+/* The turn back, likewise. */
+Preview crank_preview_back(Record r, const uint32_t *mem, size_t mem_len,
+                           const uint32_t *table, size_t table_len);
 
 /* Up to n turns forward. The first is made if n is not 0 and it is not refused; after that a batch
  * may stop anywhere. Record and mem are as after so many single turns, with a refusal too. The
@@ -173,7 +197,8 @@ Checked crank_check(Record r, const uint32_t *mem, size_t mem_len,
 /* ---- The lesson bench: libsession.a ----
  *
  * The turns, batches and samples above with the record in *b, which each call leaves as the record
- * that the call by value would have answered. mem and table are lent as there.
+ * that the call by value would have answered. mem and table are lent as there. A preview takes the
+ * record in it: crank_preview_forward(b->state, ..).
  */
 
 /* One turn; answers its refusal. Refused: *b and mem are as they were. */

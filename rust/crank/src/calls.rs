@@ -14,6 +14,22 @@ pub struct Turned {
     pub state: Record,
 }
 
+/// What a preview answers: what the turn would do.
+#[repr(C)]
+#[derive(Clone, Copy, Debug, PartialEq, Eq)]
+pub struct Preview {
+    /// The turn's refusal.
+    pub refusal: u32,
+    /// 1 where the turn would change a memory word, else 0.
+    pub changes: u32,
+    /// The address of that word; 0 where none would change.
+    pub address: u32,
+    /// Its new value, which is not the present one; 0 where none would change.
+    pub value: u32,
+    /// The record after the turn; refused, the record given.
+    pub state: Record,
+}
+
 /// What a batch answers.
 #[repr(C)]
 #[derive(Clone, Copy, Debug, PartialEq, Eq)]
@@ -91,6 +107,7 @@ pub struct Sampled {
 // As the header has them.
 const _: () = assert!(size_of::<Record>() == 84);
 const _: () = assert!(size_of::<Turned>() == 88 && size_of::<Loaded>() == 88);
+const _: () = assert!(size_of::<Preview>() == 100);
 const _: () = assert!(size_of::<Batch>() == 92 && size_of::<Bench>() == 84);
 const _: () = assert!(size_of::<Checked>() == 8 && size_of::<Cranked>() == 8);
 const _: () = assert!(size_of::<Wheeled>() == 120 && size_of::<Sampled>() == 32);
@@ -111,6 +128,20 @@ extern "C" {
         table: *const u32,
         table_len: usize,
     ) -> Turned;
+    fn crank_preview_forward(
+        r: Record,
+        mem: *const u32,
+        mem_len: usize,
+        table: *const u32,
+        table_len: usize,
+    ) -> Preview;
+    fn crank_preview_back(
+        r: Record,
+        mem: *const u32,
+        mem_len: usize,
+        table: *const u32,
+        table_len: usize,
+    ) -> Preview;
     fn crank_forward_batch(
         r: Record,
         n: u32,
@@ -220,6 +251,19 @@ pub fn forward(r: Record, mem: &mut [u32], table: &[u32]) -> Turned {
 pub fn back(r: Record, mem: &mut [u32], table: &[u32]) -> Turned {
     // SAFETY: pointers and lengths come from live slices.
     unsafe { crank_back(r, mem.as_mut_ptr(), mem.len(), table.as_ptr(), table.len()) }
+}
+
+/// The turn forward, shown and not made: what [`forward`] would answer, and the memory word that it
+/// would change, if it would change one. A word exchanged with an equal one does not change.
+pub fn preview_forward(r: Record, mem: &[u32], table: &[u32]) -> Preview {
+    // SAFETY: pointers and lengths come from live slices.
+    unsafe { crank_preview_forward(r, mem.as_ptr(), mem.len(), table.as_ptr(), table.len()) }
+}
+
+/// The turn back, likewise.
+pub fn preview_back(r: Record, mem: &[u32], table: &[u32]) -> Preview {
+    // SAFETY: pointers and lengths come from live slices.
+    unsafe { crank_preview_back(r, mem.as_ptr(), mem.len(), table.as_ptr(), table.len()) }
 }
 
 /// Up to `n` turns forward; it may stop early, but makes at least one or refuses.

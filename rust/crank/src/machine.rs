@@ -1,6 +1,6 @@
 //! A record together with the memory and the table that it is turned with.
 
-use crate::calls::{self, Batch, Checked, Sampled};
+use crate::calls::{self, Batch, Checked, Preview, Sampled};
 use crate::{image_length, Record, MAX_IMAGE, MAX_NODES, MAX_WORDS, NODE_WORDS};
 
 /// The direction of a turn.
@@ -123,9 +123,18 @@ impl Machine {
         }
     }
 
-    /// The refusal that a turn would give; the machine stays as it is.
+    /// What a turn would do: its refusal, the record after it, and the memory word that it would
+    /// change. The machine stays as it is.
+    pub fn preview(&self, direction: Direction) -> Preview {
+        match direction {
+            Direction::Forward => calls::preview_forward(self.record, &self.mem, &self.table),
+            Direction::Back => calls::preview_back(self.record, &self.mem, &self.table),
+        }
+    }
+
+    /// The refusal that a turn would give, 0 for none.
     pub fn refusal(&self, direction: Direction) -> u32 {
-        self.clone().turn(direction)
+        self.preview(direction).refusal
     }
 
     /// Whether the machine stands at finish: a forward turn gives 12.
