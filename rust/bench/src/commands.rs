@@ -61,6 +61,10 @@ const COMMANDS: &[Command] = &[
         does: "turns forward, at least one, until pc is ADDRESS" },
     Command { names: &["wheel"], takes: "GIVEN [SAMPLES]", run: wheel,
         does: "turns as encoder samples say; GIVEN is the one before them" },
+    Command { names: &["n", "next"], takes: "", run: next,
+        does: "what a turn forward would change; makes none" },
+    Command { names: &["pv", "previous"], takes: "", run: previous,
+        does: "what a turn back would change; makes none" },
     Command { names: &["w", "where"], takes: "", run: where_it_stands,
         does: "pc, br, node and wait, and the words around pc" },
     Command { names: &["regs"], takes: "", run: regs,
@@ -190,6 +194,14 @@ fn wheel(desk: &mut Desk, arguments: &[&str], out: &mut dyn Write) -> Done {
         wheel::End::Unread(line) => Err(line.into()),
         _ => Ok(()),
     }
+}
+
+fn next(desk: &mut Desk, _: &[&str], out: &mut dyn Write) -> Done {
+    Ok(show::preview(out, desk, Direction::Forward)?)
+}
+
+fn previous(desk: &mut Desk, _: &[&str], out: &mut dyn Write) -> Done {
+    Ok(show::preview(out, desk, Direction::Back)?)
 }
 
 fn where_it_stands(desk: &mut Desk, _: &[&str], out: &mut dyn Write) -> Done {

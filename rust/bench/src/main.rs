@@ -1,7 +1,8 @@
 //! The bench at a desk: `bench FILE` turns an exercise to and fro, `bench mark` marks what is
 //! handed in.
 //!
-//! Every turn, load, save and check is a proved call; nothing of the machine is written here.
+//! Every turn, preview, load, save and check is a proved call; nothing of the machine is written
+//! here.
 
 mod commands;
 mod desk;

@@ -4,7 +4,8 @@ use crate::desk::{Desk, End, Stretch};
 use crate::exercise::Exercise;
 use crate::wheel::{self, Wheel};
 use crate::words::{counted, instruction, way, word};
-use crank::{meaning, Call, Machine, BR, NODE_FIELDS, NODE_WORDS, PC, REGISTERS};
+use crank::calls::Preview;
+use crank::{meaning, Call, Direction, Machine, BR, NODE_FIELDS, NODE_WORDS, PC, REGISTERS};
 use std::collections::BTreeMap;
 use std::io::{self, Write};
 use std::ops::RangeInclusive;
@@ -196,9 +197,65 @@ pub fn wheel(out: &mut dyn Write, made: &Wheel, before: &Machine, desk: &Desk) -
     changes(out, before, desk)
 }
 
-/// The registers, the node, the wait and the words that differ.
+/// What a turn would execute or undo and what it would change, or why it would be refused.
+pub fn preview(out: &mut dyn Write, desk: &Desk, direction: Direction) -> io::Result<()> {
+    let (machine, (way, call)) = (&desk.machine, way(direction));
+    let preview = machine.preview(direction);
+    if preview.refusal != 0 {
+        let (refusal, why) = (preview.refusal, meaning(preview.refusal, call));
+        return writeln!(out, "a turn {way} would be refused by {refusal}: {why}");
+    }
+    let does = deed(machine, &preview, direction);
+    writeln!(out, "a turn {way} would {does}")?;
+    let after = after(machine, &preview);
+    let rows = changed(machine, &after, &desk.exercise);
+    columns(out, &rows)?;
+    if rows.len() == 1 && after.record.regs[PC] != machine.record.regs[PC] {
+        writeln!(out, "  nothing else would change")?;
+    }
+    Ok(())
+}
+
+/// What an accepted turn would do, with which word. A turn back undoes the turn forward from the
+/// state that it leads to, so the earlier of the two states has the address of the word.
+fn deed(machine: &Machine, preview: &Preview, direction: Direction) -> String {
+    let earlier = match direction {
+        Direction::Forward => &machine.record,
+        Direction::Back => &preview.state,
+    };
+    let verb = match (direction, earlier.qifw) {
+        (Direction::Forward, 0) => "execute",
+        (Direction::Forward, _) => "wait in",
+        (Direction::Back, 0) => "undo",
+        (Direction::Back, _) => "undo a wait in",
+    };
+    let address = earlier.regs[PC];
+    let word = instruction(machine.mem[address as usize]);
+    format!("{verb} {word} at address {address}")
+}
+
+/// The machine as the turn of this preview would leave it.
+fn after(machine: &Machine, preview: &Preview) -> Machine {
+    let mut after = machine.clone();
+    after.record = preview.state;
+    if preview.changes == 1 {
+        after.mem[preview.address as usize] = preview.value;
+    }
+    after
+}
+
+/// What turns changed.
 fn changes(out: &mut dyn Write, before: &Machine, desk: &Desk) -> io::Result<()> {
-    let (old, new) = (&before.record, &desk.machine.record);
+    let rows = changed(before, &desk.machine, &desk.exercise);
+    if rows.is_empty() {
+        writeln!(out, "  the state is as before")?;
+    }
+    columns(out, &rows)
+}
+
+/// The registers, the node, the wait and the words that differ, a row each, old and new.
+fn changed(before: &Machine, after: &Machine, exercise: &Exercise) -> Vec<Vec<String>> {
+    let (old, new) = (&before.record, &after.record);
     let mut rows = Vec::new();
     let mut compare = |name: String, old: String, new: String| {
         if old != new {
@@ -209,16 +266,13 @@ fn changes(out: &mut dyn Write, before: &Machine, desk: &Desk) -> io::Result<()>
         let (old, new) = (old.regs[register], new.regs[register]);
         compare(name.to_string(), word(old), word(new));
     }
-    let named = |number| node(number, &desk.exercise);
+    let named = |number| node(number, exercise);
     compare("node".to_string(), named(old.qifv), named(new.qifv));
     compare("wait".to_string(), word(old.qifw), word(new.qifw));
-    for (address, (old, new)) in before.mem.iter().zip(&desk.machine.mem).enumerate() {
+    for (address, (old, new)) in before.mem.iter().zip(&after.mem).enumerate() {
         if old != new {
             compare(format!("mem[{address}]"), word(*old), word(*new));
         }
     }
-    if rows.is_empty() {
-        writeln!(out, "  the state is as before")?;
-    }
-    columns(out, &rows)
+    rows
 }
