@@ -1,13 +1,14 @@
 /* Images through every call of crank.h: each is loaded, turned forward until it is refused and back
  * again, in single turns, in batches and by samples, by value and on the lesson bench, and must then
- * be what it was. After that come calls that must be refused, and must leave everything as it was,
- * but for samples, whose turns before the refused one stand.
+ * be what it was. Every single turn is previewed and must come to what the preview says. After that
+ * come calls that must be refused, and must leave everything as it was, but for samples, whose turns
+ * before the refused one stand.
  *
  * usage: roundtrip IMAGE...
  *
  * An image stands at a start and runs to a finish. Its file need have no preface: the program puts
- * some before it. Ends with 1 at the first difference, and also where no image waits or some
- * refusal was never met.
+ * some before it. Ends with 1 at the first difference, and also where no image waits, no preview has
+ * a memory word that changes or an exchange that changes none, or some refusal was never met.
  */
 #include <stdio.h>
 #include <stdlib.h>
@@ -49,6 +50,12 @@ static const char *image = "", *calls = "";
 
 /* What was covered. */
 static unsigned long turned[2], waited, sampled, refused[21], prefaced, empty;
+static struct {
+    unsigned long made;
+    unsigned long words; /* that would change */
+    unsigned long equal; /* exchanges in which none would */
+    unsigned long refused;
+} previews[2]; /* forward and back */
 
 static void demand(int holds, const char *what)
 {
@@ -124,12 +131,74 @@ static const Mode MODES[] = {
 
 enum { MODE_COUNT = sizeof MODES / sizeof *MODES };
 
+/* ---- Previews ---- */
+
+/* What a preview answers; whatever is lent to it stays as it is. */
+static Preview preview(const Machine *given, int way)
+{
+    static Machine m;
+    m = *given;
+    Preview p = (way == FORWARD ? crank_preview_forward : crank_preview_back)(
+        m.bench.state, m.mem, m.mem_len, m.table, m.table_len);
+    demand(same(&m, given), "a preview changed something");
+    return p;
+}
+
+/* Whether the word executed or undone is an ld or ldr: the earlier of both states stands at it. */
+static int exchanges(const Machine *earlier)
+{
+    uint32_t opcode = earlier->mem[earlier->bench.state.regs[0]] >> 24;
+    return opcode == 0x01 || opcode == 0x10;
+}
+
+/* The turn that led from before to after must be the one that was previewed. */
+static void expect_turn(const Preview *p, int way, uint32_t refusal, const Machine *before,
+                        const Machine *after)
+{
+    static Machine expected;
+    demand(p->refusal == refusal, "the preview has another refusal");
+    demand(memcmp(&p->state, &after->bench.state, sizeof p->state) == 0,
+           "the preview has another record");
+    expected = *before;
+    expected.bench.state = p->state;
+    if (p->changes == 1) {
+        demand(p->address < before->mem_len, "the preview has a word that is not lent");
+        demand(p->value != before->mem[p->address], "the preview has a word that stays as it is");
+        expected.mem[p->address] = p->value;
+    } else {
+        demand(p->changes == 0 && p->address == 0 && p->value == 0,
+               "the preview has something of a word, but no change");
+    }
+    demand(same(&expected, after), "the preview has another memory");
+    previews[way].made++;
+    previews[way].words += p->changes;
+    previews[way].equal +=
+        refusal == 0 && p->changes == 0 && exchanges(way == FORWARD ? before : after);
+    previews[way].refused += refusal > 0;
+}
+
+/* A call; where it is a single turn, its preview comes first. */
+static Cranked call(const Mode *mode, Machine *m, int way)
+{
+    static Machine before;
+    calls = mode->name;
+    if (mode->n > 1) {
+        return mode->call(m, way, mode->n);
+    }
+    before = *m;
+    Preview p = preview(m, way);
+    Cranked c = mode->call(m, way, 1);
+    expect_turn(&p, way, c.refusal, &before, m);
+    return c;
+}
+
+/* ---- Turns until they are refused ---- */
+
 static void expect_refused(const Mode *mode, const Machine *given, int way, uint32_t number)
 {
     static Machine m;
     m = *given;
-    calls = mode->name;
-    Cranked c = mode->call(&m, way, mode->n);
+    Cranked c = call(mode, &m, way);
     demand(c.turns == 0 && c.refusal == number, "another refusal than expected");
     demand(same(&m, given), "a refused call changed something");
     refused[number]++;
@@ -155,10 +224,9 @@ static uint32_t until_refused(const Mode *mode, Machine *m, int way)
 {
     uint32_t made = 0;
     Cranked c;
-    calls = mode->name;
     do {
         int waits = m->bench.state.qifw > 0;
-        c = mode->call(m, way, mode->n);
+        c = call(mode, m, way);
         demand(c.turns <= mode->n, "more turns than asked for");
         demand(c.turns > 0 || c.refusal > 0, "no turn and no refusal");
         made += c.turns;
@@ -589,6 +657,17 @@ static void examine(const char *name)
     refused_samples(&start);
 }
 
+static void report_previews(const char *name, int way)
+{
+    demand(previews[way].words > 0, "no preview has a word that changes");
+    demand(previews[way].equal > 0, "no preview has an exchange of equal words");
+    demand(previews[way].refused > 0, "no preview has a refusal");
+    printf("roundtrip: previews %s %lu; words that change %lu; exchanges of equal words %lu; "
+           "refused %lu\n",
+           name, previews[way].made, previews[way].words, previews[way].equal,
+           previews[way].refused);
+}
+
 /* Fails where something was never met; else says what was. */
 static void report(int images)
 {
@@ -608,6 +687,8 @@ static void report(int images)
     printf("roundtrip: images %d; turns forward %lu, back %lu; single turns out of a wait %lu; "
            "batches of 0 %lu; samples %lu; loads behind a preface %lu; calls refused %lu\n",
            images, turned[FORWARD], turned[BACK], waited, empty, sampled, prefaced, total);
+    report_previews("forward", FORWARD);
+    report_previews("back", BACK);
 }
 
 int main(int count, char **names)
