@@ -1,6 +1,9 @@
 //! Comparison of an implementation's answers with the model's.
 
+use std::hint::black_box;
+
 use crate::cover::Cover;
+use crate::preview::{Preview, PreviewCall};
 use crate::rng::Rng;
 use crate::state::{Machine, Turn, Way};
 use crate::wheel::{self, steps, SampleCall, Wheeled};
@@ -26,6 +29,33 @@ pub fn same_turn(way: Way, machine: &mut Machine, turn: Turn, cover: &mut Cover)
     );
     cover.turn(way, &start.record, refusal, machine);
     refusal
+}
+
+/// Compares a preview with the model's, field by field, and checks that all
+/// lent words are as they were.
+pub fn same_preview(way: Way, machine: &Machine, call: PreviewCall) -> Preview {
+    let before = machine.clone();
+    let found = machine.preview(call);
+    // The compiler may else take words lent for reading as unchanged.
+    assert_eq!(*black_box(machine), before, "{way:?} preview writes");
+    let expected = machine.preview(way.model_preview());
+    assert_eq!(found, expected, "{way:?} preview of {machine:?}");
+    found
+}
+
+/// Makes the turn that a preview shows, on a copy, and compares. Gives what
+/// the machine then is.
+pub fn turn_as_shown(way: Way, machine: &Machine, shown: &Preview, turn: Turn) -> Machine {
+    let (mut made, mut other) = (machine.clone(), machine.clone());
+    let refusal = made.turn(turn);
+    other.record = shown.make(&mut other.mem).1;
+    assert!(
+        refusal == shown.refusal && made == other,
+        "{way:?} turn, refusal {refusal}, to {made:?} is shown as {shown:?}, from {machine:?}"
+    );
+    let differs = made.mem != machine.mem;
+    assert_eq!(shown.changes, differs.into(), "{shown:?} from {machine:?}");
+    made
 }
 
 /// Checks that an accepted turn is undone exactly by its reverse, and that a

@@ -56,7 +56,8 @@ pub struct Cover {
     named: Vec<(String, u64)>,
 }
 
-fn word_at(r: &Record, mem: &[u32], way: Way) -> Option<u32> {
+/// The word that a turn executes or undoes, if pc leads to one.
+pub fn word_at(r: &Record, mem: &[u32], way: Way) -> Option<u32> {
     let pc = r.regs[PC];
     let br = r.regs[BR];
     let at = if way == Way::Forward || r.qifw > 0 {

@@ -122,3 +122,24 @@ pub fn damage(rng: &mut Rng, machine: &mut Machine) {
     let kind = kinds.nth(rng.index(total)).expect("a kind");
     kind(rng, machine);
 }
+
+/// Sizes out of range or lent slices too short, one at a time; the machine has
+/// a node.
+pub fn wrong_sizes(good: &Machine) -> [Machine; 9] {
+    let with = |change: fn(&mut Machine)| {
+        let mut machine = good.clone();
+        change(&mut machine);
+        machine
+    };
+    [
+        with(|machine| machine.record.k = 0),
+        with(|machine| machine.record.k = machine.record.m + 1),
+        with(|machine| machine.record.m = 0),
+        with(|machine| machine.record.m = 8_193),
+        with(|machine| machine.record.m = u32::MAX),
+        with(|machine| machine.record.n = 512),
+        with(|machine| machine.record.n = u32::MAX),
+        with(|machine| machine.mem.truncate(machine.record.m as usize - 1)),
+        with(|machine| machine.table.truncate(9 * machine.record.n as usize - 1)),
+    ]
+}

@@ -15,6 +15,7 @@ pub mod state;
 
 pub mod cover;
 pub mod damage;
+pub mod preview;
 pub mod program;
 pub mod structured;
 pub mod wheel;

@@ -1,5 +1,5 @@
 //! Sizes at and past their limits, with lent slices exact, short and long:
-//! turns, check and save.
+//! turns, previews, check and save.
 
 mod proved;
 
@@ -121,6 +121,23 @@ fn turns() {
     });
     cover.summary("limits");
     assert_eq!(seen(turns), seen(WAYS.map(|way| way.model())));
+}
+
+#[test]
+fn previews() {
+    use crank_model::compare::same_preview;
+    let calls = [proved::preview_forward, proved::preview_back];
+    let mut changes = [0; 2];
+    each(|start| {
+        for way in WAYS {
+            let shown = same_preview(way, &start, calls[way as usize]);
+            changes[way as usize] += shown.changes;
+        }
+    });
+    let turns: [Turn; 2] = [proved::forward_as_shown, proved::back_as_shown];
+    assert_eq!(seen(turns), seen(WAYS.map(|way| way.model())));
+    assert!(changes.iter().all(|count| *count > 0));
+    println!("limits: previews with a changed word, forward and back {changes:?}");
 }
 
 #[test]

@@ -162,7 +162,11 @@ fn model() {
 
 #[test]
 fn library() {
-    marks(proved::forward, proved::back, |word| {
-        proved::is_instruction(word)
-    });
+    marks(proved::forward, proved::back, proved::is_instruction);
+}
+
+#[test]
+fn previews() {
+    let (forward, back) = (proved::forward_as_shown, proved::back_as_shown);
+    marks(forward, back, proved::is_instruction);
 }

@@ -201,3 +201,8 @@ fn model() {
 fn library() {
     all(proved::forward, proved::back);
 }
+
+#[test]
+fn previews() {
+    all(proved::forward_as_shown, proved::back_as_shown);
+}

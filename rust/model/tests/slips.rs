@@ -114,3 +114,8 @@ fn model() {
 fn library() {
     slips(proved::forward, proved::back);
 }
+
+#[test]
+fn previews() {
+    slips(proved::forward_as_shown, proved::back_as_shown);
+}

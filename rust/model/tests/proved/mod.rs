@@ -3,6 +3,7 @@
 
 use crank::calls;
 use crank_model::machine::{Batch, Record};
+use crank_model::preview::Preview;
 use crank_model::wheel::Wheeled;
 
 fn given(r: Record) -> crank::Record {
@@ -39,6 +40,34 @@ pub fn forward(r: Record, mem: &mut [u32], table: &[u32]) -> (u32, Record) {
 pub fn back(r: Record, mem: &mut [u32], table: &[u32]) -> (u32, Record) {
     let turned = calls::back(given(r), mem, table);
     (turned.refusal, got(turned.state))
+}
+
+fn preview(shown: calls::Preview) -> Preview {
+    Preview {
+        refusal: shown.refusal,
+        changes: shown.changes,
+        address: shown.address,
+        value: shown.value,
+        record: got(shown.state),
+    }
+}
+
+pub fn preview_forward(r: Record, mem: &[u32], table: &[u32]) -> Preview {
+    preview(calls::preview_forward(given(r), mem, table))
+}
+
+pub fn preview_back(r: Record, mem: &[u32], table: &[u32]) -> Preview {
+    preview(calls::preview_back(given(r), mem, table))
+}
+
+/// A turn made as its preview shows it.
+pub fn forward_as_shown(r: Record, mem: &mut [u32], table: &[u32]) -> (u32, Record) {
+    preview_forward(r, mem, table).make(mem)
+}
+
+/// The turn back, likewise.
+pub fn back_as_shown(r: Record, mem: &mut [u32], table: &[u32]) -> (u32, Record) {
+    preview_back(r, mem, table).make(mem)
 }
 
 fn batch(made: calls::Batch) -> Batch {

@@ -1,11 +1,11 @@
 //! Random wheels on machines of every kind, whole and damaged.
 
 use crank_model::cover::Cover;
-use crank_model::damage::DAMAGES;
+use crank_model::damage::{wrong_sizes, DAMAGES};
 use crank_model::generate::{for_run, for_turn, noise};
 use crank_model::machine::sizes_fit;
 use crank_model::rng::{rounds, Rng};
-use crank_model::state::{Machine, WAYS};
+use crank_model::state::WAYS;
 use crank_model::structured::running;
 use crank_model::walks::{random_samples, walk};
 
@@ -64,26 +64,6 @@ fn damaged() {
     cover.summary("damaged machines");
     cover.demand(&DAMAGES.map(|(name, ..)| name));
     cover.demand(&CASES);
-}
-
-/// Sizes out of range or lent slices too short, one at a time.
-fn wrong_sizes(good: &Machine) -> [Machine; 9] {
-    let with = |change: fn(&mut Machine)| {
-        let mut machine = good.clone();
-        change(&mut machine);
-        machine
-    };
-    [
-        with(|machine| machine.record.k = 0),
-        with(|machine| machine.record.k = machine.record.m + 1),
-        with(|machine| machine.record.m = 0),
-        with(|machine| machine.record.m = 8_193),
-        with(|machine| machine.record.m = u32::MAX),
-        with(|machine| machine.record.n = 512),
-        with(|machine| machine.record.n = u32::MAX),
-        with(|machine| machine.mem.truncate(machine.record.m as usize - 1)),
-        with(|machine| machine.table.truncate(9 * machine.record.n as usize - 1)),
-    ]
 }
 
 /// With wrong sizes each sample that moves counts one refused turn, and an

@@ -1,0 +1,199 @@
+//! Exchanges at the edges of the data, of equal and of unequal words.
+
+use crank_model::cover::Cover;
+use crank_model::instruction::{word_i, word_r, BR, PC, START};
+use crank_model::machine::Record;
+use crank_model::preview::Preview;
+use crank_model::state::{Machine, Way, WAYS};
+
+use super::{demand_cases, one_preview};
+
+const R1: usize = 4;
+const R2: usize = 5;
+const LD: u32 = 1;
+const FETR: u32 = 17;
+const OPCODES: [u32; 3] = [LD, 16, FETR];
+
+/// An ld, ldr or fetr of r1 over an address, which r2 holds too.
+#[derive(Clone, Copy, Debug)]
+struct Exchange {
+    opcode: u32,
+    address: u32,
+    register: u32,
+    word: u32,
+}
+
+impl Exchange {
+    /// The instruction at address 0, and pc so that a turn executes or undoes
+    /// it; the word stands at its address unless that is code or not lent.
+    fn machine(&self, way: Way, k: u32, m: u32, excess: usize) -> Machine {
+        let mut mem = vec![word_i(2, R1, 1); m as usize + excess];
+        mem[0] = match self.opcode {
+            LD => word_i(LD, R1, self.address),
+            opcode => word_r(opcode, R1, R2),
+        };
+        if self.address >= k && (self.address as usize) < mem.len() {
+            mem[self.address as usize] = self.word;
+        }
+        let mut regs = [7; 16];
+        regs[PC] = u32::from(way == Way::Back);
+        regs[BR] = 0;
+        regs[R1] = self.register;
+        regs[R2] = self.address;
+        let record = Record {
+            regs,
+            k,
+            m,
+            ..Record::default()
+        };
+        Machine {
+            record,
+            mem,
+            table: Vec::new(),
+        }
+    }
+
+    fn expected(&self, way: Way, r: &Record) -> Preview {
+        if self.address < r.k || self.address >= r.m {
+            return refused(15, r);
+        }
+        let mut record = *r;
+        record.regs[PC] = u32::from(way == Way::Forward);
+        record.regs[R1] = match self.opcode {
+            FETR => self.register ^ self.word,
+            _ => self.word,
+        };
+        let changes = self.opcode != FETR && self.register != self.word;
+        Preview {
+            refusal: 0,
+            changes: changes.into(),
+            address: if changes { self.address } else { 0 },
+            value: if changes { self.register } else { 0 },
+            record,
+        }
+    }
+}
+
+fn refused(refusal: u32, r: &Record) -> Preview {
+    Preview {
+        refusal,
+        changes: 0,
+        address: 0,
+        value: 0,
+        record: *r,
+    }
+}
+
+/// Places around the edges of the data; the largest is what the instruction's
+/// imm or register can hold.
+fn addresses(opcode: u32, k: u32, m: u32) -> Vec<(&'static str, u32)> {
+    let largest = if opcode == LD { 0xFFFF } else { u32::MAX };
+    vec![
+        ("0", 0),
+        ("K-1", k - 1),
+        ("K", k),
+        ("M-1", m - 1),
+        ("M", m),
+        ("largest", largest),
+    ]
+}
+
+/// Values of the register and the word: equal, unequal, and 0 on either side.
+const VALUES: [(u32, u32); 7] = [
+    (5, 5),
+    (0, 0),
+    (u32::MAX, u32::MAX),
+    (5, 6),
+    (0, 9),
+    (9, 0),
+    (u32::MAX, 0x7FFF_FFFF),
+];
+
+/// Each of these at each of those, by the name of its place.
+fn exchanges(k: u32, m: u32) -> Vec<(&'static str, Exchange)> {
+    let mut all = Vec::new();
+    for opcode in OPCODES {
+        for (edge, address) in addresses(opcode, k, m) {
+            let of_values = |(register, word)| Exchange {
+                opcode,
+                address,
+                register,
+                word,
+            };
+            all.extend(VALUES.map(of_values).map(|exchange| (edge, exchange)));
+        }
+    }
+    all
+}
+
+fn at_edges(k: u32, m: u32, excess: usize, cover: &mut Cover) {
+    for (edge, exchange) in exchanges(k, m) {
+        for way in WAYS {
+            let machine = exchange.machine(way, k, m, excess);
+            let (shown, _) = one_preview(way, &machine, cover);
+            let expected = exchange.expected(way, &machine.record);
+            assert_eq!(shown, expected, "{way:?} {exchange:?}, K {k}, M {m}");
+            if shown.changes == 1 {
+                cover.count(&format!("{way:?} change at {edge}"));
+            }
+        }
+    }
+}
+
+#[test]
+fn edges() {
+    let mut cover = Cover::default();
+    for (k, m) in [(1, 1), (1, 2), (2, 2), (3, 7), (1, 8192), (8191, 8192)] {
+        for excess in [0, 1, 5] {
+            at_edges(k, m, excess, &mut cover);
+        }
+    }
+    at_edges(8192, 8192, 2, &mut cover);
+    cover.summary("exchanges at the edges");
+    demand_cases(&cover, |case| !case.starts_with("other"));
+    for way in WAYS {
+        for edge in ["K", "M-1"] {
+            cover.demand(&[&format!("{way:?} change at {edge}")]);
+        }
+    }
+}
+
+/// What refuses a turn, and its refusal forward and back.
+type Cause = (fn(&mut Machine), [u32; 2]);
+
+const CAUSES: [Cause; 6] = [
+    (|m| m.mem.truncate(2), [10, 10]),
+    (|m| m.record.regs[PC] = u32::MAX, [11, 11]),
+    (|m| m.mem[0] |= 1 << 31, [13, 13]),
+    (|m| wait_at_word(&mut m.record), [14, 14]),
+    (|m| m.mem[1] = START, [18, 12]),
+    (|m| m.record.regs[R2] = 1, [15, 15]),
+];
+
+fn wait_at_word(r: &mut Record) {
+    r.regs[PC] = 0;
+    r.qifw = 1;
+}
+
+/// An exchange of unequal words that is refused changes none.
+#[test]
+fn refused_exchanges() {
+    let mut cover = Cover::default();
+    let exchange = Exchange {
+        opcode: 16,
+        address: 2,
+        register: 5,
+        word: 6,
+    };
+    for way in WAYS {
+        let good = exchange.machine(way, 2, 3, 0);
+        assert_eq!(one_preview(way, &good, &mut cover).0.changes, 1);
+        for (spoil, refusals) in CAUSES {
+            let mut machine = good.clone();
+            spoil(&mut machine);
+            let (shown, _) = one_preview(way, &machine, &mut cover);
+            assert_eq!(shown, refused(refusals[way as usize], &machine.record));
+        }
+    }
+    cover.summary("refused exchanges");
+}

@@ -1,0 +1,47 @@
+//! Previews of words that stand where nothing can be written: one that made the
+//! turn and took it back would end this file's tests.
+
+use crank_model::machine::{Record, NODE};
+use crank_model::state::WAYS;
+
+use super::PREVIEWS;
+
+/// ld r1,4; ldr r1,r2; qif r3; finish; and the data word 77.
+static MEM: [u32; 5] = [0x0140_0004, 0x1045_0000, 0x1860_0000, 0x1B00_0000, 77];
+/// Node 2 is the first child of node 1 for coin 0, and waits for 1 cycle.
+static TABLE: [u32; 2 * NODE] = [2, 0, 0, 0, 0, 0, 0, 0, 0, 0, 0, 0, 0, 1, 0, 0, 0, 1];
+
+fn record(pc: u32, qifv: u32, qifw: u32) -> Record {
+    let mut regs = [0; 16];
+    regs[0] = pc;
+    regs[4] = 5;
+    regs[5] = 4;
+    Record {
+        regs,
+        qifv,
+        qifw,
+        k: 4,
+        m: 5,
+        n: 2,
+    }
+}
+
+#[test]
+fn only_read() {
+    let (mut changes, mut walks) = ([0; 2], [0; 2]);
+    for pc in 0..=5 {
+        for (qifv, qifw) in [(1, 0), (2, 0), (2, 1)] {
+            for way in WAYS {
+                let r = record(pc, qifv, qifw);
+                let shown = PREVIEWS[way as usize](r, &MEM, &TABLE);
+                assert_eq!(shown, way.model_preview()(r, &MEM, &TABLE), "{r:?}");
+                changes[way as usize] += shown.changes;
+                let walked = [shown.record.qifv, shown.record.qifw] != [qifv, qifw];
+                walks[way as usize] += u32::from(walked);
+            }
+        }
+    }
+    println!("only read: forward and back, changes {changes:?}, qifs and waits {walks:?}");
+    // Two exchanges, with either node; a qif and a wait.
+    assert_eq!((changes, walks), ([4; 2], [2; 2]));
+}
