@@ -14,9 +14,11 @@ pub enum Call {
     Single(Way),
     Batch(Way, u32),
     Samples(u8, Vec<u8>),
+    Preview(Way),
 }
 
-/// What a call of a list gave: the accepted turns and the refusal.
+/// What a call of a list gave: the accepted turns, none for a preview, and the
+/// refusal.
 #[derive(Clone, Copy, Debug, PartialEq, Eq)]
 pub struct Gave {
     pub forward: u64,
@@ -25,7 +27,7 @@ pub struct Gave {
 }
 
 impl Gave {
-    /// What a single turn or a batch gave.
+    /// What a single turn, a batch or a preview gave.
     pub fn one_way(way: Way, turns: u32, refusal: u32) -> Gave {
         let mut accepted = [0; 2];
         accepted[way as usize] = turns.into();
@@ -44,9 +46,10 @@ fn random_call(rng: &mut Rng, machine: &Machine) -> Call {
     } else {
         Way::Back
     };
-    match rng.below(4) {
+    match rng.below(5) {
         0 => Call::Single(way),
-        1 => {
+        1 => Call::Preview(way),
+        2 => {
             let (given, samples) = random_samples(rng, 200);
             Call::Samples(given, samples)
         }
@@ -63,6 +66,7 @@ fn follow_call(call: &Call, model: &mut Machine, gave: Gave, cover: &mut Cover) 
         Call::Samples(given, samples) => {
             return follow_samples(*given, samples, model, gave, cover)
         }
+        Call::Preview(way) => return follow_preview(*way, model, gave, cover),
     };
     let turns = [gave.forward, gave.back][way as usize] as u32;
     let made = Made {
@@ -90,29 +94,60 @@ fn follow_samples(given: u8, samples: &[u8], model: &mut Machine, gave: Gave, co
     }
 }
 
+/// A preview makes no turn; the model stays where it is.
+fn follow_preview(way: Way, model: &Machine, gave: Gave, cover: &mut Cover) {
+    let shown = model.preview(way.model_preview());
+    let expected = Gave::one_way(way, 0, shown.refusal);
+    assert_eq!(gave, expected, "{way:?} preview: {model:?}");
+    if shown.changes > 0 {
+        cover.count("preview of a changed word");
+    }
+}
+
 /// Makes a random list of calls with `left`, following each with the model.
-/// Gives the accepted forward turns less the accepted back turns.
+/// Gives the calls with what they gave.
 pub fn run_left(
     rng: &mut Rng,
     machine: &mut Machine,
     mut left: impl FnMut(&mut Machine, &Call) -> Gave,
     cover: &mut Cover,
-) -> i64 {
+) -> Vec<(Call, Gave)> {
     let mut model = machine.clone();
-    let mut net = 0;
-    let calls = rng.below(13);
-    for _ in 0..calls {
+    let mut list = Vec::new();
+    for _ in 0..rng.below(13) {
         let call = random_call(rng, machine);
         let gave = left(machine, &call);
         follow_call(&call, &mut model, gave, cover);
         assert_eq!(*machine, model, "{call:?} gave {gave:?}");
-        net += gave.forward as i64 - gave.back as i64;
         count_call(cover, &call, gave);
+        list.push((call, gave));
     }
-    if calls == 0 {
+    if list.is_empty() {
         cover.count("empty list");
     }
-    net
+    list
+}
+
+/// The accepted forward turns less the accepted back turns.
+pub fn net(list: &[(Call, Gave)]) -> i64 {
+    let of_one = |gave: &Gave| gave.forward as i64 - gave.back as i64;
+    list.iter().map(|(_, gave)| of_one(gave)).sum()
+}
+
+/// Makes a list again, without its previews: the other calls give the same,
+/// and their end is the same.
+pub fn without_previews(
+    list: &[(Call, Gave)],
+    mut machine: Machine,
+    end: &Machine,
+    mut left: impl FnMut(&mut Machine, &Call) -> Gave,
+) {
+    for (call, gave) in list {
+        if !matches!(call, Call::Preview(_)) {
+            assert_eq!(left(&mut machine, call), *gave, "{call:?} of {list:?}");
+        }
+    }
+    assert_eq!(machine, *end, "without the previews of {list:?}");
 }
 
 fn count_call(cover: &mut Cover, call: &Call, gave: Gave) {
@@ -123,6 +158,8 @@ fn count_call(cover: &mut Cover, call: &Call, gave: Gave) {
         Call::Single(_) => cover.count("single"),
         Call::Samples(_, list) if list.is_empty() => cover.count("no samples"),
         Call::Samples(..) => cover.count("samples"),
+        Call::Preview(_) if gave.refusal != 0 => return cover.count("refused preview"),
+        Call::Preview(_) => cover.count("preview"),
     }
     match gave.refusal {
         0 => {}
@@ -169,7 +206,7 @@ pub fn count_net(cover: &mut Cover, net: i64) {
 }
 
 /// What every list test must have met.
-pub const LIST_CASES: [&str; 15] = [
+pub const LIST_CASES: [&str; 18] = [
     "empty list",
     "batch of 0",
     "batch of 4294967295",
@@ -182,6 +219,9 @@ pub const LIST_CASES: [&str; 15] = [
     "samples with a refused turn",
     "samples refused by 19",
     "samples refused by 20",
+    "preview",
+    "preview of a changed word",
+    "refused preview",
     "net 0",
     "net forward",
     "net back",

@@ -2,10 +2,14 @@
 
 mod proved;
 
+use crank_model::compare::same_preview;
 use crank_model::cover::Cover;
 use crank_model::generate::for_run;
-use crank_model::lists::{count_net, other_excess, run_left, run_right, Call, Gave, LIST_CASES};
+use crank_model::lists::{
+    count_net, net, other_excess, run_left, run_right, without_previews, Call, Gave, LIST_CASES,
+};
 use crank_model::machine::{self, Batch, Record};
+use crank_model::preview::{self, PreviewCall};
 use crank_model::rng::{rounds, Rng};
 use crank_model::state::{Machine, Turn, Way, WAYS};
 use crank_model::wheel::{self, SampleCall, Wheeled};
@@ -17,18 +21,21 @@ struct Calls {
     turns: [Turn; 2],
     batches: [BatchCall; 2],
     samples: SampleCall,
+    previews: [PreviewCall; 2],
 }
 
 const MODEL: Calls = Calls {
     turns: [machine::forward, machine::back],
     batches: [machine::forward_batch, machine::back_batch],
     samples: wheel::samples,
+    previews: [preview::forward, preview::back],
 };
 
 const LIBRARY: Calls = Calls {
     turns: [proved::forward, proved::back],
     batches: [proved::forward_batch, proved::back_batch],
     samples: proved::samples,
+    previews: [proved::preview_forward, proved::preview_back],
 };
 
 fn wheeled(answer: Wheeled) -> Gave {
@@ -53,23 +60,27 @@ fn by_value(machine: &mut Machine, call: &Call, calls: &Calls) -> Gave {
             Gave::one_way(*way, batch.turns, batch.refusal)
         }
         Call::Samples(given, list) => wheeled(machine.samples(*given, list, calls.samples)),
+        Call::Preview(way) => {
+            let shown = same_preview(*way, machine, calls.previews[*way as usize]);
+            Gave::one_way(*way, 0, shown.refusal)
+        }
     }
 }
 
-/// Random lists; `left` makes one after the start it is given.
-fn lists(
-    title: &str,
-    seed: u64,
-    turns: [Turn; 2],
-    mut left: impl FnMut(&mut Rng, &mut Machine, &mut Cover) -> i64,
-) {
+/// Random lists; `left` gives what makes the calls from a start.
+fn lists<L>(title: &str, seed: u64, turns: [Turn; 2], left: impl Fn(&Machine) -> L)
+where
+    L: FnMut(&mut Machine, &Call) -> Gave,
+{
     let mut rng = Rng::new(seed);
     let mut cover = Cover::default();
     for _ in 0..rounds(6_000) {
         let way: Way = rng.pick(&WAYS);
         let start = for_run(&mut rng, way);
         let mut end = start.clone();
-        let net = left(&mut rng, &mut end, &mut cover);
+        let list = run_left(&mut rng, &mut end, left(&start), &mut cover);
+        without_previews(&list, start.clone(), &end, left(&start));
+        let net = net(&list);
         run_right(net, other_excess(&mut rng, &start), &end, turns);
         count_net(&mut cover, net);
     }
@@ -79,9 +90,8 @@ fn lists(
 }
 
 fn lists_by_value(title: &str, seed: u64, calls: &Calls) {
-    lists(title, seed, calls.turns, |rng, machine, cover| {
-        let left = |m: &mut Machine, call: &Call| by_value(m, call, calls);
-        run_left(rng, machine, left, cover)
+    lists(title, seed, calls.turns, |_| {
+        |m: &mut Machine, call: &Call| by_value(m, call, calls)
     });
 }
 
@@ -103,6 +113,8 @@ mod bench {
     fn on_bench(bench: &mut Bench, machine: &mut Machine, call: &Call) -> Gave {
         let (mem, table) = (&mut machine.mem, &machine.table);
         let gave = match call {
+            // It takes the bench's record, which the machine has.
+            Call::Preview(_) => return by_value(machine, call, &LIBRARY),
             Call::Samples(given, list) => wheeled(bench.samples(*given, list, mem, table)),
             Call::Single(way) => {
                 let refusal = match way {
@@ -125,10 +137,9 @@ mod bench {
 
     #[test]
     fn library() {
-        lists("bench lists", 43, LIBRARY.turns, |rng, machine, cover| {
-            let mut bench = Bench::new(machine.record);
-            let left = |m: &mut Machine, call: &Call| on_bench(&mut bench, m, call);
-            run_left(rng, machine, left, cover)
+        lists("bench lists", 43, LIBRARY.turns, |start| {
+            let mut bench = Bench::new(start.record);
+            move |m: &mut Machine, call: &Call| on_bench(&mut bench, m, call)
         });
     }
 
