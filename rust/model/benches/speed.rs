@@ -1,5 +1,11 @@
 //! Turns per second, forward and back, in single calls, in batches and from
-//! encoder samples, of the library and of the model in one run.
+//! encoder samples, and previews per second, of the library and of the model in
+//! one run.
+//!
+//! The previews are of states that the single turns come through, collected
+//! beforehand, each in the largest memory: a preview that copied it would be far
+//! slower than a turn, as the model's is. Nothing is turned while they are
+//! measured.
 //!
 //! Options: `--seconds S`, the time for each figure (default 0.5).
 
@@ -12,7 +18,8 @@ use std::process::exit;
 use std::time::{Duration, Instant};
 
 use crank_model::instruction::{word_i, word_o, word_r};
-use crank_model::machine::{self, Batch, Record, NODE};
+use crank_model::machine::{self, Batch, Record, MAX_M, NODE};
+use crank_model::preview::{self, PreviewCall};
 use crank_model::state::{Machine, Turn, Way, WAYS};
 use crank_model::wheel::{self, SampleCall};
 
@@ -23,13 +30,18 @@ type BatchCall = fn(Record, u32, &mut [u32], &[u32]) -> Batch;
 const STRETCH: u32 = 20_000;
 
 /// The ways of calling, each a row of the table.
-const MODES: [&str; 3] = ["single", "batch", "samples"];
+const MODES: [&str; 4] = ["single", "batch", "samples", "preview"];
+
+/// The states whose previews are measured, over and over: two rounds of the
+/// longer programs, and few enough for what is read of them to stay in cache.
+const STATES: usize = 28;
 
 struct Crank {
     name: &'static str,
     turns: [Turn; 2],
     batches: [BatchCall; 2],
     samples: SampleCall,
+    previews: [PreviewCall; 2],
 }
 
 /// The model last, as the others are compared with it.
@@ -40,26 +52,31 @@ fn cranks() -> Vec<Crank> {
             turns: [proved::forward, proved::back],
             batches: [proved::forward_batch, proved::back_batch],
             samples: proved::samples,
+            previews: [proved::preview_forward, proved::preview_back],
         },
         Crank {
             name: "bench",
             turns: [bench::forward, bench::back],
             batches: [bench::forward_batch, bench::back_batch],
             samples: bench::samples,
+            previews: [bench::preview_forward, bench::preview_back],
         },
         Crank {
             name: "model",
             turns: [machine::forward, machine::back],
             batches: [machine::forward_batch, machine::back_batch],
             samples: wheel::samples,
+            previews: [preview::forward, preview::back],
         },
     ]
 }
 
-/// The bench calls with the record copied in and out.
+/// The bench calls with the record copied in and out; a preview takes the
+/// bench's record by value.
 mod bench {
-    use super::proved::Bench;
+    use super::proved::{self, Bench};
     use crank_model::machine::{Batch, Record};
+    use crank_model::preview::Preview;
     use crank_model::wheel::Wheeled;
 
     pub fn forward(r: Record, mem: &mut [u32], table: &[u32]) -> (u32, Record) {
@@ -94,6 +111,14 @@ mod bench {
 
     pub fn samples(r: Record, given: u8, list: &[u8], mem: &mut [u32], table: &[u32]) -> Wheeled {
         Bench::new(r).samples(given, list, mem, table)
+    }
+
+    pub fn preview_forward(r: Record, mem: &[u32], table: &[u32]) -> Preview {
+        proved::preview_forward(Bench::new(r).record(), mem, table)
+    }
+
+    pub fn preview_back(r: Record, mem: &[u32], table: &[u32]) -> Preview {
+        proved::preview_back(Bench::new(r).record(), mem, table)
     }
 }
 
@@ -231,6 +256,35 @@ fn sample_stretch(call: SampleCall, samples: &[u8], machine: &mut Machine) {
     machine.record = answer.record;
 }
 
+/// The states from `start` on, with as many data words as there can be.
+fn states(start: &Machine) -> Vec<Machine> {
+    let mut first = start.clone();
+    first.mem.resize(MAX_M as usize, 0);
+    first.record.m = MAX_M;
+    let mut states = vec![first];
+    for i in 0..STATES {
+        let mut next = states[i].clone();
+        assert_eq!(
+            next.turn(machine::forward),
+            0,
+            "a collected turn is refused"
+        );
+        states.push(next);
+    }
+    states
+}
+
+fn preview_stretch(call: PreviewCall, states: &[Machine]) {
+    for state in states.iter().cycle().take(STRETCH as usize) {
+        let shown = call(
+            black_box(state.record),
+            black_box(&state.mem),
+            black_box(&state.table),
+        );
+        assert_eq!(black_box(shown).refusal, 0, "a measured preview is refused");
+    }
+}
+
 /// Million turns per second in both directions; the machine ends as it began.
 /// The median stretch counts, so that other work on the machine shows less.
 fn measure(
@@ -258,6 +312,9 @@ fn measure(
 /// Figures of each crank for one program: [crank][mode][way].
 fn figures(start: &Machine, time: Duration, cranks: &[Crank]) -> Vec<[[f64; 2]; MODES.len()]> {
     let lists = WAYS.map(stretch_of_samples);
+    let states = states(start);
+    // What can be turned forward, and what back.
+    let shown = [&states[..STATES], &states[1..]];
     let each = |crank: &Crank| {
         let single = measure(start, time, |way, m| {
             single_stretch(crank.turns[way as usize], m);
@@ -268,7 +325,10 @@ fn figures(start: &Machine, time: Duration, cranks: &[Crank]) -> Vec<[[f64; 2]; 
         let samples = measure(start, time, |way, m| {
             sample_stretch(crank.samples, &lists[way as usize], m);
         });
-        [single, batch, samples]
+        let preview = measure(start, time, |way, _| {
+            preview_stretch(crank.previews[way as usize], shown[way as usize]);
+        });
+        [single, batch, samples, preview]
     };
     cranks.iter().map(each).collect()
 }
@@ -281,7 +341,7 @@ fn print_program(name: &str, cranks: &[Crank], found: &[[[f64; 2]; MODES.len()]]
             let mut line = format!("{name:<12}{mode_name:<8}{way_name:<9}");
             for (crank, figures) in cranks.iter().zip(found) {
                 let speed = figures[mode][way as usize];
-                line += &format!("{speed:>9.1}");
+                line += &format!("{speed:>9.2}");
                 if crank.name != "model" {
                     line += &format!("{:>7.2}", speed / model);
                 }
@@ -317,7 +377,7 @@ fn main() {
             head += &format!("{:>7}", "ratio");
         }
     }
-    println!("million turns per second; ratio to the model");
+    println!("million turns or previews per second; ratio to the model");
     println!("{head}");
     for (name, start) in [
         ("arithmetic", arithmetic()),
