@@ -1,7 +1,7 @@
 //! `Machine` held against single turns by value, the lesson bench against the calls by value, and
 //! the refusals in words.
 
-use crank::calls::{self, Batch, Bench, Cranked, Sampled, Turned};
+use crank::calls::{self, Batch, Bench, Cranked, Preview, Sampled, Turned};
 use crank::{meaning, Call, Direction, Machine, Made, Record, MAX_FILE};
 use std::fs;
 use std::iter;
@@ -176,6 +176,45 @@ fn ends_of_a_run() {
     }
     println!("machine: the ends of {runs} runs, {states} states");
     assert!(states > 100);
+}
+
+/// What a preview should show between two neighbours of a run, or at its end.
+fn shown(from: &Machine, to: Option<&Machine>) -> Preview {
+    let refusal = if to.is_none() { 12 } else { 0 };
+    let to = to.unwrap_or(from);
+    let differs = |address: &usize| from.mem[*address] != to.mem[*address];
+    let changed: Vec<usize> = (0..from.mem.len()).filter(differs).collect();
+    assert!(changed.len() < 2, "{changed:?}");
+    Preview {
+        refusal,
+        changes: changed.len() as u32,
+        address: changed.first().map_or(0, |address| *address as u32),
+        value: changed.first().map_or(0, |address| to.mem[*address]),
+        state: to.record,
+    }
+}
+
+/// In every state of a run the previews show its neighbours, and change nothing.
+#[test]
+fn previews() {
+    let (mut previews, mut changes) = (0, 0);
+    for (name, _, machine) in examples() {
+        let (states, _) = run(&machine, Forward);
+        for (turns, state) in states.iter().enumerate() {
+            let before = turns.checked_sub(1).map(|turns| &states[turns]);
+            for (direction, to) in [(Forward, states.get(turns + 1)), (Back, before)] {
+                let looked_at = state.clone();
+                let preview = looked_at.preview(direction);
+                let want = shown(state, to);
+                assert_eq!(preview, want, "{name} after {turns}, {direction:?}");
+                assert_eq!(looked_at, *state, "{name} after {turns}, {direction:?}");
+                previews += 1;
+                changes += preview.changes;
+            }
+        }
+    }
+    println!("machine: {previews} previews, {changes} with a word that changes");
+    assert!(previews > 200 && changes > 0);
 }
 
 #[test]
