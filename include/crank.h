@@ -197,8 +197,8 @@ Checked crank_check(Record r, const uint32_t *mem, size_t mem_len,
 /* ---- The lesson bench: libsession.a ----
  *
  * The turns, batches and samples above with the record in *b, which each call leaves as the record
- * that the call by value would have answered. mem and table are lent as there. A preview takes the
- * record in it: crank_preview_forward(b->state, ..).
+ * that the call by value would have answered. mem and table are lent as there. Previews are those of
+ * libcapi.a, with the record in *b: crank_preview_forward(b->state, ..).
  */
 
 /* One turn; answers its refusal. Refused: *b and mem are as they were. */
