@@ -21,9 +21,10 @@ use Rattle.machine.specs.declared.Record.{Record}
 use Rattle.machine.specs.declared.Turned.{Turned}
 use Rattle.machine.specs.declared.Batch.{Batch}
 use Rattle.machine.proofs.Claims.{next-view, next-excess, refused-keeps, turn-home}
-use Rattle.lists.specs.Lists.{Call, Left, Straight, Alike, AlikeTables, Right, LeftAndRight}
+use Rattle.lists.specs.Lists.{Call, Left, Slipped, SlippedIn, Straight, Alike, AlikeTables, Right, LeftAndRight}
 use Rattle.lists.specs.Lists.Call.{single, batch, samples, reads}
 use Rattle.lists.specs.Lists.Left.{empty, then}
+use Rattle.lists.specs.Lists.Slipped.{ends, both, slip}
 use Rattle.lists.specs.Lists.Straight.{none, turn}
 use Rattle.lists.proofs.Reversible as R
 use Rattle.lists.proofs.Samples.{call-turns, by-turns}
@@ -176,3 +177,11 @@ left-and-right table other x y right f b a t l = go (decLe b f)
           tables = r .tables;
           excess = own (r .end) (r .excess);
         }
+
+-- ---- calls slipped in
+
+pub slipped-in : SlippedIn
+slipped-in table x y f b g c l r ends = (refl, refl)
+slipped-in table x y f b g c l r (both {p = p} {q = q} k s) =
+    let h = slipped-in table x _ _ _ _ _ _ _ s in (ap (λ (n : ℕ). p + n) (h .0), ap (λ (n : ℕ). q + n) (h .1))
+slipped-in table x y f b g c l r (slip k s) = let h = slipped-in table x _ _ _ _ _ _ _ s in (omega (arith, h .0), omega (arith, h .1))

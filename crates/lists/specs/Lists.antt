@@ -42,6 +42,20 @@ pub data Left (table : List ℕ) : Machine → ℕ → ℕ → Machine → Type 
   empty : {x : Machine} → Left table x 0 0 x
   then : {x y z : Machine} {f b p q : ℕ} → Left table x f b y → Call table y p q z → Left table x (p + f) (q + b) z
 
+-- The list l is the list r with calls that turn nothing slipped in, anywhere. Both lead from x to the same machine.
+pub data Slipped (table : List ℕ) (x : Machine) : (y : Machine) (f b g c : ℕ) → Left table x f b y → Left table x g c y → Type 0 where
+  ends : Slipped table x x 0 0 0 0 empty empty
+  both : {y z : Machine} {f b g c p q : ℕ} {l : Left table x f b y} {r : Left table x g c y} (k : Call table y p q z)
+      → Slipped table x y f b g c l r → Slipped table x z (p + f) (q + b) (p + g) (q + c) (then l k) (then r k)
+  slip : {y : Machine} {f b g c : ℕ} {l : Left table x f b y} {r : Left table x g c y} (k : Reading table y)
+      → Slipped table x y f b g c l r → Slipped table x y (0 + f) (0 + b) g c (then l (reads y k)) r
+
+-- And they count the same turns: what is slipped in alters nothing for Left.
+abbrev pub SlippedIn : Type 0
+SlippedIn =
+    (table : List ℕ) (x y : Machine) (f b g c : ℕ) (l : Left table x f b y) (r : Left table x g c y) → Slipped table x y f b g c l r
+    → (f ≡ g) × (b ≡ c)
+
 -- ---- Right: single turns straight
 
 -- k single turns this way, each accepted and on what the last one left
