@@ -6,7 +6,7 @@ use crank_model::machine::Record;
 use crank_model::preview::Preview;
 use crank_model::state::{Machine, Way, WAYS};
 
-use super::{demand_cases, one_preview};
+use super::{demand_cases, one_preview, refused};
 
 const R1: usize = 4;
 const R2: usize = 5;
@@ -71,16 +71,6 @@ impl Exchange {
             value: if changes { self.register } else { 0 },
             record,
         }
-    }
-}
-
-fn refused(refusal: u32, r: &Record) -> Preview {
-    Preview {
-        refusal,
-        changes: 0,
-        address: 0,
-        value: 0,
-        record: *r,
     }
 }
 

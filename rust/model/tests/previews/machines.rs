@@ -3,12 +3,11 @@
 use crank_model::cover::Cover;
 use crank_model::damage::{wrong_sizes, DAMAGES};
 use crank_model::generate::{for_turn, noise};
-use crank_model::preview::Preview;
 use crank_model::rng::{rounds, Rng};
 use crank_model::state::WAYS;
 use crank_model::structured::running;
 
-use super::{demand_all, demand_cases, level, one_preview};
+use super::{demand_all, demand_cases, level, one_preview, refused};
 
 /// Machines for one turn, half of them damaged, and noise; both previews.
 #[test]
@@ -61,15 +60,9 @@ fn sizes() {
     for _ in 0..rounds(300) {
         let good = running(&mut rng, 100);
         for machine in wrong_sizes(&good) {
-            let refused = Preview {
-                refusal: 10,
-                changes: 0,
-                address: 0,
-                value: 0,
-                record: machine.record,
-            };
             for way in WAYS {
-                assert_eq!(one_preview(way, &machine, &mut cover).0, refused);
+                let (shown, _) = one_preview(way, &machine, &mut cover);
+                assert_eq!(shown, refused(10, &machine.record));
             }
         }
     }

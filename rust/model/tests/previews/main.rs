@@ -13,6 +13,7 @@ use crank_model::compare::{same_preview, turn_as_shown};
 use crank_model::cover::{word_at, Cover};
 use crank_model::instruction::decode;
 use crank_model::instruction::Instruction::{self, *};
+use crank_model::machine::Record;
 use crank_model::preview::{Preview, PreviewCall};
 use crank_model::rng::Rng;
 use crank_model::state::{Machine, Turn, Way, WAYS};
@@ -36,6 +37,17 @@ fn one_preview(way: Way, machine: &Machine, cover: &mut Cover) -> (Preview, Mach
     cover.count(&case(way, machine, &shown));
     count_excess(machine, shown.refusal, cover);
     (shown, after)
+}
+
+/// A refused preview gives the record as given and no change.
+fn refused(refusal: u32, r: &Record) -> Preview {
+    Preview {
+        refusal,
+        changes: 0,
+        address: 0,
+        value: 0,
+        record: *r,
+    }
 }
 
 fn count_excess(machine: &Machine, refusal: u32, cover: &mut Cover) {
