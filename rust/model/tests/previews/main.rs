@@ -8,6 +8,7 @@ mod exchanges;
 mod lent;
 mod machines;
 mod runs;
+mod waits;
 
 use crank_model::compare::{same_preview, turn_as_shown};
 use crank_model::cover::{word_at, Cover};
