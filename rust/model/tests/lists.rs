@@ -113,8 +113,12 @@ mod bench {
     fn on_bench(bench: &mut Bench, machine: &mut Machine, call: &Call) -> Gave {
         let (mem, table) = (&mut machine.mem, &machine.table);
         let gave = match call {
-            // It takes the bench's record, which the machine has.
-            Call::Preview(_) => return by_value(machine, call, &LIBRARY),
+            // The bench has no preview: its own record is previewed by value.
+            Call::Preview(_) => {
+                let known = std::mem::replace(&mut machine.record, bench.record());
+                assert_eq!(machine.record, known, "the bench's record");
+                by_value(machine, call, &LIBRARY)
+            }
             Call::Samples(given, list) => wheeled(bench.samples(*given, list, mem, table)),
             Call::Single(way) => {
                 let refusal = match way {
