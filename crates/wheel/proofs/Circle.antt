@@ -1,26 +1,69 @@
 -- The circle of samples. Assumes nothing.
-use Prim.Native.Nat.{ℕ, zero, suc, _≤_}
+use Prim.Native.Nat.{ℕ, zero, suc, _+_, _-_, _<_, _≤_}
 use mathlib.Core.Path.{_≡_, refl}
+use mathlib.Core.Bool.{Bool, true, false}
+use mathlib.Core.List.{List, [], _∷_}
 use native.Mathlib.Omega.{arith}
+use lib.Dec.{ltb}
 use borrow.Author.Tests.{lt-ltb}
-use Rattle.word.specs.Word.{subWord}
-use Rattle.wheel.specs.Wheel.{steps, fault}
-use Rattle.wheel.specs.Claims.{Circle}
+use Rattle.word.specs.Word.{pick, subWord}
+use Rattle.step.specs.declared.Direction.{Direction}
+use Rattle.step.specs.declared.Direction.the-variants.{Forward, Back}
+use Rattle.step.specs.View.{byWay}
+use Rattle.machine.specs.Calls.{turnOf, memoryOf, accepted}
+use Rattle.machine.specs.declared.Record.{Record}
+use Rattle.machine.specs.declared.Turned.{Turned}
+use Rattle.wheel.specs.Wheel.{Wheel, wheelOf, started, ended, taken, run}
+use Rattle.wheel.specs.Claims.{Rests, Ends, Circle}
 
-still : (s : ℕ) → s ≤ 3 → (steps s s ≡ 0) × (fault s s ≡ 0)
-unfolding subWord
-still zero h = (refl, refl)
-still (suc zero) h = (refl, refl)
-still (suc (suc zero)) h = (refl, refl)
-still (suc (suc (suc zero))) h = (refl, refl)
+-- the counts of one turn, from 0 on
+module _ (d : Direction) (s : ℕ) (r : Record) (mem table : List ℕ) where
+  abbrev t : Turned
+  t = turnOf d r mem table
+
+  abbrev n : ℕ
+  n = accepted (t .refusal)
+
+  abbrev counts : ℕ → ℕ → ℕ → Wheel
+  counts f b c = wheelOf (record { forward = f; back = b; refused = c; last = s; refusal = 0; state = t .state }) (memoryOf d r mem table)
+
+  zero-add : (m : ℕ) → 0 + m ≡ m
+  zero-add m = omega arith
+
+  moves : counts (0 + byWay d n 0) (0 + byWay d 0 n) (0 + (1 - n)) ≡ counts (byWay d n 0) (byWay d 0 n) (1 - n)
+  moves = λ j. counts (zero-add (byWay d n 0) j) (zero-add (byWay d 0 n) j) (zero-add (1 - n) j)
+
+still : (s : ℕ) → s ≤ 3 → Rests s
+unfolding subWord taken run
+still zero h = λ r mem table. refl
+still (suc zero) h = λ r mem table. refl
+still (suc (suc zero)) h = λ r mem table. refl
+still (suc (suc (suc zero))) h = λ r mem table. refl
 still (suc (suc (suc (suc s)))) h = absurd (omega arith)
 
+above : (p s : ℕ) → 3 < s → Ends 20 p s
+unfolding taken run
+above p s h r mem table = go (ltb 3 p)
+  where
+    first : Wheel
+    first = wheelOf (started p r) mem
+
+    over : Wheel
+    over = wheelOf (ended 20 (started p r)) mem
+
+    ran : run table (s ∷ []) first ≡ over
+    ran = rw (lt-ltb 3 s h) refl
+
+    go : (b : Bool) → pick b over (run table (s ∷ []) first) ≡ over
+    go true = refl
+    go false = ran
+
 pub circle : Circle
-unfolding subWord
+unfolding subWord taken run
 circle =
     record {
-      cycle = ((refl, refl, refl, refl), (refl, refl, refl, refl), (refl, refl, refl, refl), (refl, refl, refl, refl));
+      cycle = ((moves Forward 1, moves Back 0), (moves Forward 3, moves Back 1), (moves Forward 2, moves Back 3), (moves Forward 0, moves Back 2));
       still = still;
-      away = (refl, refl, refl, refl);
-      above = λ p s h. rw (lt-ltb 3 s h) refl;
+      away = (λ r mem table. refl, λ r mem table. refl, λ r mem table. refl, λ r mem table. refl);
+      above = above;
     }

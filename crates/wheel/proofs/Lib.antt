@@ -5,3 +5,4 @@ pub mod Loop
 pub mod Circle
 pub mod Cut
 pub mod Alone
+pub mod Unread

@@ -1,25 +1,49 @@
 -- What is claimed of the circle and of sample calls.
-use Prim.Native.Nat.{ℕ, _+_, _<_, _≤_}
+use Prim.Native.Nat.{ℕ, _+_, _-_, _<_, _≤_}
 use mathlib.Core.Path.{_≡_}
+use mathlib.Core.Logic.{_≢_}
 use mathlib.Core.List.{List, [], _∷_, _++_}
 use lib.Dec.{eqb, ltb}
 use Rattle.word.specs.Word.{pick}
+use Rattle.step.specs.declared.Direction.{Direction}
+use Rattle.step.specs.declared.Direction.the-variants.{Forward, Back}
+use Rattle.step.specs.View.{byWay}
+use Rattle.machine.specs.Calls.{turnOf, memoryOf, accepted}
 use Rattle.machine.specs.declared.Record.{Record}
-use Rattle.wheel.specs.Wheel.{steps, fault, WheelPromise}
+use Rattle.wheel.specs.Wheel.{fault, wheelOf, started, ended, followOf, WheelPromise}
 use Rattle.wheel.specs.declared.Wheeled.{Wheeled}
 
--- s is behind p in the forward cycle: one step along the circle, and back again one against it, which is three along it;
--- neither ends a call
-abbrev pub Behind : ℕ → ℕ → Type 0
-Behind p s = (steps p s ≡ 1) × (steps s p ≡ 3) × (fault p s ≡ 0) × (fault s p ≡ 0)
+-- ---- what a call with one sample comes to, in terms of the turns alone
+
+-- given p, the sample s makes a turn this way, which is counted by its refusal
+abbrev pub Moves : Direction → ℕ → ℕ → Type 0
+Moves d p s =
+    (r : Record) (mem table : List ℕ)
+    → (let t = turnOf d r mem table in let n = accepted (t .refusal) in
+    followOf p (s ∷ []) r mem table
+    ≡ wheelOf (record { forward = byWay d n 0; back = byWay d 0 n; refused = 1 - n; last = s; refusal = 0; state = t .state }) (memoryOf d r mem table))
+
+-- given s, the same once more turns and counts nothing
+abbrev pub Rests : ℕ → Type 0
+Rests s = (r : Record) (mem table : List ℕ) → followOf s (s ∷ []) r mem table ≡ wheelOf (started s r) mem
+
+-- given p, the sample s ends the call by n: nothing is turned, and p is the last sample
+abbrev pub Ends : ℕ → ℕ → ℕ → Type 0
+Ends n p s = (r : Record) (mem table : List ℕ) → followOf p (s ∷ []) r mem table ≡ wheelOf (ended n (started p r)) mem
+
+-- s comes after p in the forward cycle: from p to s is a turn forward, from s to p one back
+abbrev pub Follows : ℕ → ℕ → Type 0
+Follows p s = Moves Forward p s × Moves Back s p
 
 -- The circle is document 02's cycle 0, 1, 3, 2, 0; an equal sample is no step; the other pairs are two steps away, 19; and
--- above 3 all is 20, first. Proved in proofs/Circle.
+-- a sample above 3 is 20, whatever is before it. Proved in proofs/Circle.
 pub record Circle : Type 0 where
-  pub cycle : Behind 0 1 × Behind 1 3 × Behind 3 2 × Behind 2 0
-  pub still : (s : ℕ) → s ≤ 3 → (steps s s ≡ 0) × (fault s s ≡ 0)
-  pub away : (fault 0 3 ≡ 19) × (fault 3 0 ≡ 19) × (fault 1 2 ≡ 19) × (fault 2 1 ≡ 19)
-  pub above : (p s : ℕ) → 3 < s → fault p s ≡ 20
+  pub cycle : Follows 0 1 × Follows 1 3 × Follows 3 2 × Follows 2 0
+  pub still : (s : ℕ) → s ≤ 3 → Rests s
+  pub away : Ends 19 0 3 × Ends 19 3 0 × Ends 19 1 2 × Ends 19 2 1
+  pub above : (p s : ℕ) → 3 < s → Ends 20 p s
+
+-- ---- lists of samples
 
 -- the answers of two calls, one behind the other, as one
 abbrev pub joined : Wheeled → Wheeled → Wheeled
@@ -51,3 +75,9 @@ abbrev pub SamplesAlone : Type 0
 SamplesAlone =
     (given : ℕ) (l : List ℕ) (r : Record) (mem table : List ℕ) (a : Wheeled) (mem′ : List ℕ)
     → WheelPromise given l r mem table a mem′ → (a .last, a .refusal) ≡ pick (ltb 3 given) (given, 20) (endOf given l)
+
+-- What stands behind the sample that ended a call is not looked at: a longer list comes to the same. Proved in proofs/Unread.
+abbrev pub Unread : Type 0
+Unread =
+    (given : ℕ) (l m : List ℕ) (r : Record) (mem table : List ℕ) (a : Wheeled) (mem′ : List ℕ)
+    → WheelPromise given l r mem table a mem′ → a .refusal ≢ 0 → WheelPromise given (l ++ m) r mem table a mem′
