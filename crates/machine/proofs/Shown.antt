@@ -1,5 +1,6 @@
 -- A preview is the turn made on a copy. Assumes nothing.
-use mathlib.Core.Path.{_≡_, refl, sym, ap, _∙_, subst₃}
+use mathlib.Core.Path.{_≡_, refl, sym, ap, _∙_, subst, subst₃}
+use mathlib.Core.Logic.{_≢_}
 use mathlib.Core.Bool.{Bool, true, false, false≢true, not, _&&_}
 use mathlib.Core.List.{List, _++_}
 use Prim.Native.Nat.{ℕ, _<_, _≤_}
@@ -17,12 +18,12 @@ use Rattle.step.specs.declared.Attempt.{Attempt}
 use Rattle.step.specs.declared.Attempt.the-variants.{Refused, Does}
 use Rattle.step.specs.declared.Store.{Store}
 use Rattle.step.specs.View.{Bounds, nodes}
-use Rattle.step.specs.Step.{storeOf, storeIn}
+use Rattle.step.specs.Step.{storeOf, storeIn, number}
 use Rattle.step.proofs.Views.{view-in, store-in}
 use Rattle.step.proofs.Undo.{Fair}
 use Rattle.machine.specs.Turn.{from, turned}
 use Rattle.machine.specs.Calls.{statusOf, viewOf, planOf, turnOf, memoryOf}
-use Rattle.machine.specs.Preview.{plannedStore, storeBy, changes, reported, previewOf, ShowsTurn, Previews}
+use Rattle.machine.specs.Preview.{plannedStore, storeBy, changes, reported, previewOf, ShowsTurn, Previews, refusedBy, ShowsRefusal}
 use Rattle.machine.specs.InPlace.{firstOf}
 use Rattle.machine.specs.declared.Record.{Record}
 use Rattle.machine.specs.declared.Turned.{Turned}
@@ -114,3 +115,15 @@ previews d r mem table p a mem′ h q =
     subst₃ (λ (x : Preview) (y : Turned) (z : List ℕ). ShowsTurn r mem x y z) (sym (h .answer)) (sym (q .answer)) (sym (q .memory))
     (shows r mem s (turnOf d r mem table) (memoryOf d r mem table) (turn-leaves d r mem table (h .bounds))
     (changes s (getD (take (r .m) mem) (s .address) 0)) refl)
+
+-- ---- a refused turn
+
+pub shows-refusal : ShowsRefusal
+shows-refusal d r mem table p h z =
+    subst (λ (x : Preview). x ≡ refusedBy (x .refusal) r) (sym (h .answer))
+    (go (planOf d r mem table) refl (λ e. z (ap (λ (x : Preview). x .refusal) (h .answer) ∙ e)))
+  where
+    go : (x : Attempt) → planOf d r mem table ≡ x → number (planOf d r mem table) ≢ 0
+        → previewOf d r mem table ≡ refusedBy (number (planOf d r mem table)) r
+    go (Refused n) e u = rw e refl
+    go (Does f) e u = absurd (u (ap number e))

@@ -68,3 +68,11 @@ abbrev pub Previews : Type 0
 Previews =
     (d : Direction) (r : Record) (mem table : List ℕ) (p : Preview) (a : Turned) (mem′ : List ℕ)
     → PreviewPromise d r mem table p → TurnPromise d r mem table a mem′ → ShowsTurn r mem p a mem′
+
+-- and where the turn would be refused it shows the record as it was given, and no word
+abbrev pub refusedBy : ℕ → Record → Preview
+refusedBy n r = record { refusal = n; changes = 0; address = 0; value = 0; state = r }
+
+abbrev pub ShowsRefusal : Type 0
+ShowsRefusal =
+    (d : Direction) (r : Record) (mem table : List ℕ) (p : Preview) → PreviewPromise d r mem table p → p .refusal ≢ 0 → p ≡ refusedBy (p .refusal) r
