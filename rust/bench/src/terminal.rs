@@ -1,7 +1,11 @@
 //! Lines in, and what goes to standard error: faults and the progress of a long run.
 
 use crate::interrupt;
+use std::fs::{File, Metadata};
 use std::io::{self, BufRead, BufReader, IsTerminal, StdinLock, Write};
+use std::os::fd::AsFd;
+use std::os::unix::fs::MetadataExt;
+use std::sync::atomic::{AtomicBool, Ordering};
 use std::time::{Duration, Instant};
 
 /// The most bytes of a line, so that an endless one ends.
@@ -32,9 +36,22 @@ pub enum Line {
 /// Standard input, with what is read of it and not yet used.
 pub type Input = BufReader<StdinLock<'static>>;
 
+/// Whether commands are read from it.
+static COMMANDS: AtomicBool = AtomicBool::new(false);
+
 /// It is read by one hand alone.
 pub fn input() -> Input {
+    COMMANDS.store(true, Ordering::Relaxed);
     BufReader::new(io::stdin().lock())
+}
+
+/// Whether the commands come from this pipe, so that what else is read from it would be a matter of
+/// time. A regular file can be read twice.
+pub fn brings_commands(file: &Metadata) -> bool {
+    let same = |input: Metadata| (input.dev(), input.ino()) == (file.dev(), file.ino());
+    let input = io::stdin().as_fd().try_clone_to_owned().map(File::from);
+    let read = COMMANDS.load(Ordering::Relaxed);
+    read && !file.is_file() && input.and_then(|input| input.metadata()).is_ok_and(same)
 }
 
 /// The next line, without its end.

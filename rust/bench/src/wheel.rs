@@ -4,7 +4,7 @@
 
 use crate::desk::{progress_text, Desk, CHUNK};
 use crate::interrupt;
-use crate::terminal::Progress;
+use crate::terminal::{self, Progress};
 use crate::typed;
 use crank::calls::Sampled;
 use crank::Machine;
@@ -37,7 +37,8 @@ impl Samples {
         })
     }
 
-    /// At a terminal a regular file only: Ctrl-C could not stop a read that waits for more.
+    /// At a terminal a regular file only: Ctrl-C could not stop a read that waits for more. In a
+    /// script no pipe that the commands come from.
     fn open(path: &Path) -> Result<Samples, String> {
         if path.as_os_str().is_empty() {
             return Err("@ needs the name of a file behind it".to_string());
@@ -47,6 +48,9 @@ impl Samples {
         let kind = fs::metadata(path).map_err(fault)?;
         if kind.is_dir() || interrupt::installed() && !kind.is_file() {
             return Err(format!("{name}: is no regular file"));
+        }
+        if terminal::brings_commands(&kind) {
+            return Err(format!("{name}: the commands come from there"));
         }
         let bytes = Box::new(File::open(path).map_err(fault)?);
         Ok(Samples { name, bytes })
