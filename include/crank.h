@@ -61,7 +61,8 @@ typedef struct Wheeled {
     uint64_t forward; /* turns accepted forward */
     uint64_t back;    /* turns accepted back */
     uint64_t refused; /* turns that the machine refused */
-    uint32_t last;    /* the last sample before any 19 or 20; the given one if there is none */
+    uint32_t last;    /* the last sample before any 19 or 20; the given one if there is none. It fits a
+                         byte, and is what the call for the samples behind it is given */
     uint32_t refusal; /* 19 or 20; 0 where all samples were taken */
     Record state;     /* the record after the accepted turns */
 } Wheeled;
@@ -110,7 +111,10 @@ CRANK_LAYOUT(offsetof(Preview, address) == 8, "Preview: then changes");
 CRANK_LAYOUT(offsetof(Preview, value) == 12, "Preview: then address and value");
 CRANK_LAYOUT(offsetof(Preview, state) == 16, "Preview: record last");
 CRANK_LAYOUT(sizeof(Wheeled) == 120, "Wheeled: 29 words, and one to fill up");
-CRANK_LAYOUT(offsetof(Wheeled, last) == 24, "Wheeled: counts first");
+CRANK_LAYOUT(offsetof(Wheeled, back) == 8, "Wheeled: forward first");
+CRANK_LAYOUT(offsetof(Wheeled, refused) == 16, "Wheeled: then back");
+CRANK_LAYOUT(offsetof(Wheeled, last) == 24, "Wheeled: then refused");
+CRANK_LAYOUT(offsetof(Wheeled, refusal) == 28, "Wheeled: then last and refusal");
 CRANK_LAYOUT(offsetof(Wheeled, state) == 32, "Wheeled: record last");
 CRANK_LAYOUT(sizeof(Loaded) == 88, "Loaded: 22 words");
 CRANK_LAYOUT(offsetof(Loaded, state) == 4, "Loaded: record last");
@@ -118,7 +122,10 @@ CRANK_LAYOUT(sizeof(Checked) == 8, "Checked: 2 words");
 CRANK_LAYOUT(sizeof(Bench) == 84, "Bench: a record");
 CRANK_LAYOUT(sizeof(Cranked) == 8, "Cranked: 2 words");
 CRANK_LAYOUT(sizeof(Sampled) == 32, "Sampled: 8 words");
-CRANK_LAYOUT(offsetof(Sampled, last) == 24, "Sampled: counts first");
+CRANK_LAYOUT(offsetof(Sampled, back) == 8, "Sampled: forward first");
+CRANK_LAYOUT(offsetof(Sampled, refused) == 16, "Sampled: then back");
+CRANK_LAYOUT(offsetof(Sampled, last) == 24, "Sampled: then refused");
+CRANK_LAYOUT(offsetof(Sampled, refusal) == 28, "Sampled: last, then refusal");
 
 /* ---- Turns, previews, batches and samples: libcapi.a ----
  *
