@@ -11,6 +11,9 @@ use crank_model::walks::{random_samples, walk};
 
 use super::{one_wheel, CASES};
 
+/// The accepted turns that a long wheel makes.
+const MANY: u64 = 500;
+
 #[test]
 fn long() {
     let mut rng = Rng::new(61);
@@ -19,11 +22,15 @@ fn long() {
         let way = rng.pick(&WAYS);
         let mut machine = for_run(&mut rng, way);
         let (given, samples) = random_samples(&mut rng, 1_000);
-        one_wheel(&mut machine, given, &samples, &mut cover);
+        let answer = one_wheel(&mut machine, given, &samples, &mut cover);
+        if answer.forward + answer.back >= MANY {
+            cover.count("many turns in one call");
+        }
     }
     cover.summary("long wheels");
     cover.demand_turns();
     cover.demand(&CASES);
+    cover.demand(&["many turns in one call"]);
 }
 
 /// Machines for one turn, half of them damaged, and noise.
