@@ -188,18 +188,33 @@ mod tests {
         (turn(&mut desk, given, &mut samples), desk)
     }
 
+    /// Wheels at a start: to and fro, against it, and along to the finish and on. Each sample is one
+    /// turn, so every count is one over all chunks.
+    const WHEELS: [&[u8]; 3] = [&[1, 0], &[2, 3, 1, 0], &[1, 3, 2, 0]];
+
     #[test]
     fn what_was_read_before_a_fault_is_turned() {
         let chunk = CHUNK as usize;
-        for length in [0, 1, chunk - 1, chunk, chunk + 1, 2 * chunk + 7] {
-            let to_and_fro = [1, 0].into_iter().cycle().take(length).collect();
-            let (wheel, desk) = broken(0, to_and_fro);
+        let mut most = [0; 3];
+        for (length, samples) in [0, 1, chunk - 1, chunk, chunk + 1, 2 * chunk + 7]
+            .into_iter()
+            .flat_map(|length| WHEELS.map(|wheel| (length, wheel)))
+        {
+            let list = samples.iter().copied().cycle().take(length).collect();
+            let (wheel, desk) = broken(0, list);
             assert_eq!(wheel.taken, length as u64);
             assert!(matches!(wheel.end, End::Unread(line) if line.starts_with("samples: ")));
-            let (forward, back) = (wheel.sampled.forward, wheel.sampled.back);
-            assert_eq!(forward + back + wheel.sampled.refused, length as u64);
-            assert_eq!((desk.counts.forward, desk.counts.back), (forward, back));
+            let came = &wheel.sampled;
+            let counts = [came.forward, came.back, came.refused];
+            assert_eq!(counts.iter().sum::<u64>(), length as u64);
+            assert_eq!(
+                [desk.counts.forward, desk.counts.back],
+                [came.forward, came.back]
+            );
+            most = [0, 1, 2].map(|i| counts[i].max(most[i]));
         }
+        let [forward, back, refused] = most;
+        assert!(forward > CHUNK / 2 && back > CHUNK / 2 && refused > CHUNK);
     }
 
     #[test]
