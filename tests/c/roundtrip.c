@@ -16,8 +16,8 @@
 
 #include "crank.h"
 
-/* The calls of document 02, declared once more as its requests have them: where the header has another
- * type, this is no C. */
+/* Declared once more: a type that changes in the header alone would convert at each call without a
+ * word, and is now no C. */
 Wheeled crank_samples(Record r, uint8_t given, const uint8_t *samples, size_t samples_len,
                       uint32_t *mem, size_t mem_len, const uint32_t *table, size_t table_len);
 Preview crank_preview_forward(Record r, const uint32_t *mem, size_t mem_len,
