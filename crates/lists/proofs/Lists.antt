@@ -21,6 +21,7 @@ use Rattle.machine.specs.declared.Record.{Record}
 use Rattle.machine.specs.declared.Turned.{Turned}
 use Rattle.machine.specs.declared.Batch.{Batch}
 use Rattle.machine.proofs.Claims.{next-view, next-excess, refused-keeps, turn-home}
+use Rattle.machine.proofs.Batches.{batches-complete}
 use Rattle.lists.specs.Lists.{Call, Left, Slipped, SlippedIn, Straight, Alike, AlikeTables, Right, LeftAndRight}
 use Rattle.lists.specs.Lists.Call.{single, batch, samples, reads}
 use Rattle.lists.specs.Lists.Left.{empty, then}
@@ -61,8 +62,8 @@ module _ (table : List ℕ) where
   batch-run : {d : Direction} {n : ℕ} {x : Machine} {a : Batch} {mem : List ℕ} → BatchPromise d n (x .state) (x .memory) table a mem
       → Runs d (a .turns) x (machineOf (a .state) mem)
   batch-run {d} {n} {x} {a} {mem} p =
-      let e : machineOf (a .state) mem ≡ after table d (a .turns) x = λ j. machineOf (p .answer j .state) (p .memory j) in
-      subst (Runs d (a .turns) x) (sym e) (many-run d (a .turns) x (p .count .accepted))
+      let g = batches-complete d n (x .state) (x .memory) table a mem p in
+      subst (Runs d (a .turns) x) (sym (g .made)) (many-run d (a .turns) x (g .accepted))
 
   -- ---- so a list of calls is a tour
 

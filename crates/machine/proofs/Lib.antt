@@ -4,6 +4,7 @@ pub mod InPlace
 pub mod Inverse
 pub mod Claims
 pub mod Given
+pub mod Batches
 pub mod Runs
 pub mod Marks
 pub mod Instruction

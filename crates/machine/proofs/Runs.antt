@@ -3,13 +3,11 @@ use mathlib.Core.Path.{_≡_, refl, sym, ap, ap₂, _∙_, subst, subst₂}
 use mathlib.Core.Bool.{Bool, true, false, true≢false, _&&_}
 use mathlib.Core.Logic.{_≢_}
 use mathlib.Core.List.{List}
-use Prim.Native.Nat.{ℕ, zero, suc, _+_, _<_, _≤_}
+use Prim.Native.Nat.{ℕ, _+_, _-_, _<_, _≤_}
 use native.Mathlib.Omega.{arith}
-use native.Mathlib.Decide.{decLe}
-use native.Mathlib.Numerals.{add-one}
 use lib.Dec.{eqb, ltb}
 use lib.ListN.{length}
-use borrow.Author.Tests.{lt-ltb, le-ltb, eqb-true, eq-eqb}
+use borrow.Author.Tests.{eqb-true, eqb-false, eq-eqb}
 use Rattle.word.specs.Word.{pick}
 use Rattle.step.specs.declared.Status.{Status}
 use Rattle.step.specs.declared.Direction.{Direction}
@@ -19,74 +17,48 @@ use Rattle.step.specs.View.{Bounds}
 use Rattle.step.proofs.Sized.{SameSizes}
 use Rattle.machine.specs.Calls.{Machine, machineOf, statusOf, updated, viewOf, TurnPromise, refusal, next}
 use Rattle.machine.specs.InPlace.{Steps, batchIn, Runs}
-use Rattle.machine.specs.Batch.{after, Count, batchOf, BatchPromise}
+use Rattle.machine.specs.Batch.{after, turnsMade, batchOf, BatchPromise}
 use Rattle.machine.specs.declared.Record.{Record}
 use Rattle.machine.specs.declared.Batch.{Batch}
 use Rattle.machine.specs.declared.Ran.{Ran}
 use Rattle.machine.proofs.InPlace.{steps-regs, steps-long}
 use Rattle.machine.proofs.Claims.{same-status, refused-keeps, next-sizes, next-long}
+use Rattle.machine.proofs.Batches.{after-add, made-add, Ends, ends-refused, ends-none, ends-there, promises}
 
 module _ (table : List ℕ) (d : Direction) where
-  -- one more at the end
-  pub after-more : (k : ℕ) (x : Machine) → after table d (suc k) x ≡ next table d (after table d k x)
-  unfolding after
-  after-more zero x = refl
-  after-more (suc k) x = after-more k (next table d x)
-
-  pub after-none : (x : Machine) → after table d 0 x ≡ x
-  unfolding after
-  after-none x = refl
-
-  -- the loop, after i turns from x that led to y
+  -- the loop, after i turns from x, all of them made, that led to y
   pub record Going (n : ℕ) (x y : Machine) (i : ℕ) : Type 0 where
     pub most : i ≤ n
-    pub accepted : (j : ℕ) → j < i → refusal table d (after table d j x) ≡ 0
+    pub made : turnsMade table d i x ≡ i
     pub machine : after table d i x ≡ y
     pub long : length (y .memory) ≡ length (x .memory)
 
+  one-made : (y : Machine) → refusal table d y ≡ 0 → turnsMade table d 1 y ≡ 1
+  unfolding turnsMade
+  one-made y z = rw z refl
+
+  one-after : (y : Machine) → after table d 1 y ≡ next table d y
+  unfolding after
+  one-after y = refl
+
   module _ (n : ℕ) (x : Machine) where
     pub going : Going n x x 0
-    going = record { most = omega arith; accepted = λ j h. absurd (omega arith); machine = after-none x; long = refl }
+    unfolding after turnsMade
+    going = record { most = omega arith; made = refl; machine = refl; long = refl }
 
     module _ (y : Machine) (i : ℕ) (g : Going n x y i) where
-      at-y : refusal table d (after table d i x) ≡ refusal table d y
-      at-y = ap (refusal table d) (g .machine)
-
       pub went : i < n → refusal table d y ≡ 0 → Going n x (next table d y) (i + 1)
       went h z =
           record {
             most = omega arith;
-            accepted = λ j l. more j l (decLe i j);
-            machine = ap (λ (k : ℕ). after table d k x) (add-one i) ∙ (after-more i x ∙ ap (next table d) (g .machine));
+            made = made-add table d i 1 x (g .made) ∙ ap (λ (k : ℕ). i + k) (ap (turnsMade table d 1) (g .machine) ∙ one-made y z);
+            machine = after-add table d i 1 x ∙ (ap (after table d 1) (g .machine) ∙ one-after y);
             long = next-long table d y ∙ g .long;
           }
-        where
-          more : (j : ℕ) → j < i + 1 → Dec (i ≤ j) → refusal table d (after table d j x) ≡ 0
-          more j l (yes q) = let e : j ≡ i = omega arith in ap (λ (k : ℕ). refusal table d (after table d k x)) e ∙ (at-y ∙ z)
-          more j l (no q) = g .accepted j (omega arith)
 
-      -- what the batch's contract asks, at the two ways out
-      first : refusal table d y ≢ 0 → refusal table d x ≡ 0 → 0 < i
-      first z q = go i (g .machine)
-        where
-          go : (k : ℕ) → after table d k x ≡ y → 0 < k
-          go zero e = absurd (z (ap (refusal table d) (sym e ∙ after-none x) ∙ q))
-          go (suc k) e = omega arith
-
-      pub stopped : i < n → refusal table d y ≢ 0
-          → Count table d n x i × (refusal table d y ≡ pick (ltb i n) (refusal table d (after table d i x)) 0) × (next table d y ≡ after table d i x)
-      stopped h z = (
-        record { most = g .most; some = λ p q. first z q; accepted = g .accepted },
-        rw (lt-ltb i n h) (sym at-y),
-        refused-keeps table d y z ∙ sym (g .machine),
-      )
-
-      pub ended : n ≤ i → Count table d n x i × (0 ≡ pick (ltb i n) (refusal table d (after table d i x)) 0) × (y ≡ after table d i x)
-      ended h = (
-        record { most = g .most; some = λ p q. omega (arith, g .most); accepted = g .accepted },
-        rw (le-ltb i n h),
-        sym (g .machine),
-      )
+      -- the two ways out: what a batch of the rest answers from y, the whole one answers from x
+      pub ends : (w : ℕ) (z : Machine) → Ends table d (n - i) y 0 w z → Ends table d n x i w z
+      ends w z e = ends-there table d i n x w z (g .most) (g .made) (subst (λ (u : Machine). Ends table d (n - i) u 0 w z) (sym (g .machine)) e)
 
 -- ---- the loop's own terms: the registers and the status beside the record
 
@@ -111,21 +83,14 @@ module _ {table : List ℕ} {d : Direction} {n : ℕ} {r : Record} {mem₀ : Lis
   abbrev y : Machine
   y = machineOf (updated r at regs) mem
 
-  -- the promise, of a run that made k turns and was refused by w
-  abbrev Out : ℕ → ℕ → Record → List ℕ → Type 0
-  Out k w r′ mem′ = Count table d n x k × (w ≡ batchOf d n k r mem₀ table .refusal) × (machineOf r′ mem′ ≡ after table d k x)
-
-  promised : (k w : ℕ) (r′ : Record) (mem′ : List ℕ) → Out k w r′ mem′ → BatchPromise d n r mem₀ table (record { turns = k; refusal = w; state = r′ }) mem′
-  promised k w r′ mem′ h =
-      record {
-        count = h .0;
-        answer = λ j. record { turns = k; refusal = h .1 j; state = h .2 j .state };
-        memory = ap (λ (u : Machine). u .memory) (h .2);
-        bounds = inv .bounds;
-      }
+  out : (w : ℕ) (r′ : Record) (mem′ : List ℕ) → Ends table d (n - i) y 0 w (machineOf r′ mem′)
+      → BatchPromise d n r mem₀ table (record { turns = i; refusal = w; state = r′ }) mem′
+  out w r′ mem′ e = promises i w r′ mem′ (inv .bounds) (ends table d n x y i (inv .run) w (machineOf r′ mem′) e)
 
   done : n ≤ i → BatchPromise d n r mem₀ table (record { turns = i; refusal = 0; state = updated r at regs }) mem
-  done h = promised i 0 (updated r at regs) mem (ended table d n x y i (inv .run) h)
+  done h =
+      let z : 0 ≡ n - i = omega arith in
+      out 0 (updated r at regs) mem (subst (λ (k : ℕ). Ends table d k y 0 0 y) z (ends-none table d y))
 
   module _ {w : ℕ} {at′ : Status} {s : Store} {regs′ mem′ : List ℕ} (f : Steps true d at regs mem mem table w at′ s regs′ mem′) where
     -- the turn in place is the turn of the whole record
@@ -147,8 +112,10 @@ module _ {table : List ℕ} {d : Direction} {n : ℕ} {r : Record} {mem₀ : Lis
 
     stop : i < n → w ≢ 0 → BatchPromise d n r mem₀ table (record { turns = i; refusal = w; state = updated r at′ regs′ }) mem′
     stop h z =
-        let l = stopped table d n x y i (inv .run) h (λ q. z (whole .refusal ∙ q)) in
-        promised i w (updated r at′ regs′) mem′ (l .0, whole .refusal ∙ l .1, sym stepped ∙ l .2)
+        let q : refusal table d y ≢ 0 = λ q. z (whole .refusal ∙ q) in
+        out w (updated r at′ regs′) mem′
+        (subst₂ (λ (k : ℕ) (u : Machine). Ends table d (n - i) y 0 k u) (sym (whole .refusal)) (sym (refused-keeps table d y q) ∙ stepped)
+        (ends-refused table d (n - i) y (omega arith) q))
 
 -- ---- a run that may be live or not
 
@@ -201,17 +168,23 @@ module _ (live : Bool) (mem shown : List ℕ) {table : List ℕ} {d : Direction}
         refused l e = true≢false (sym (ap₂ (λ (b c : Bool). b && c) (eq-eqb w 0 e) l) ∙ z)
 
 -- a batch of one is a single turn
-single : (d : Direction) (r : Record) (mem table : List ℕ) (k : ℕ) → Count table d 1 (machineOf r mem) k
-    → (batchOf d 1 k r mem table .refusal ≡ refusal table d (machineOf r mem)) × (after table d k (machineOf r mem) ≡ next table d (machineOf r mem))
-unfolding after
-single d r mem table zero c = (refl, sym (refused-keeps table d (machineOf r mem) (λ z. absurd (omega (arith, c .some (omega arith) z)))))
-single d r mem table (suc zero) c = (sym (c .accepted 0 (omega arith)), refl)
-single d r mem table (suc (suc k)) c = absurd (omega (arith, c .most))
+single : (d : Direction) (r : Record) (mem table : List ℕ)
+    → (batchOf d 1 r mem table .refusal ≡ refusal table d (machineOf r mem)) × (after table d (turnsMade table d 1 (machineOf r mem)) (machineOf r mem) ≡ next table d (machineOf r mem))
+unfolding after turnsMade
+single d r mem table = go (eqb (refusal table d x) 0) refl
+  where
+    x : Machine
+    x = machineOf r mem
+
+    go : (b : Bool) → eqb (refusal table d x) 0 ≡ b
+        → (pick (ltb (pick b 1 0) 1) (refusal table d (after table d (pick b 1 0) x)) 0 ≡ refusal table d x) × (after table d (pick b 1 0) x ≡ next table d x)
+    go true e = (sym (eqb-true _ _ e), refl)
+    go false e = (refl, sym (refused-keeps table d x (eqb-false _ _ e)))
 
 pub one : (d : Direction) (r : Record) (mem table : List ℕ) (b : Batch) (mem′ : List ℕ) → BatchPromise d 1 r mem table b mem′
     → TurnPromise d r mem table (record { refusal = b .refusal; state = b .state }) mem′
 one d r mem table b mem′ h =
-    let s = single d r mem table (b .turns) (h .count) in
+    let s = single d r mem table in
     let w : b .refusal ≡ refusal table d (machineOf r mem) = ap (λ (x : Batch). x .refusal) (h .answer) ∙ s .0 in
     let e : b .state ≡ next table d (machineOf r mem) .state = ap (λ (x : Batch). x .state) (h .answer) ∙ ap (λ (x : Machine). x .state) (s .1) in
     record { answer = λ j. record { refusal = w j; state = e j }; memory = h .memory ∙ ap (λ (x : Machine). x .memory) (s .1); bounds = h .bounds }

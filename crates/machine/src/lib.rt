@@ -34,7 +34,8 @@ pub struct Turned {
     pub state: Record,
 }
 
-// What a batch answers: the turns made, k, the refusal that ended them, 0 for none, and the new record.
+// What a batch answers: the turns made, k, the refusal of the next one where they are fewer than asked for,
+// else 0, and the new record.
 #[repr(C)]
 pub struct Batch {
     pub turns: u32,
@@ -236,14 +237,14 @@ impl Record {
         self.preview(Direction::Back, mem, table)
     }
 
-    // Up to n turns forward. How many, k, is free within Count; all else follows from it.
+    // n turns forward, or those before the first refusal.
     pub fn forward_batch(self, n: u32, mem: &mut [u32], table: &[u32]) -> Batch
         ensures { λ r. ⌜ BatchPromise Direction.Forward n self (now (mem .entry)) (now (table .entry)) r (now (mem .exit)) ⌝ }
     {
         self.batch(Direction::Forward, n, mem, table)
     }
 
-    // Up to n turns back.
+    // n turns back, likewise.
     pub fn back_batch(self, n: u32, mem: &mut [u32], table: &[u32]) -> Batch
         ensures { λ r. ⌜ BatchPromise Direction.Back n self (now (mem .entry)) (now (table .entry)) r (now (mem .exit)) ⌝ }
     {

@@ -1,5 +1,5 @@
 -- What the program does with a file (document 01, "The crank program"): it loads it, and turns forward until refused or
--- 1,000,000 turns.
+-- 1,000,000 turns, in one batch.
 use Prim.Native.Nat.{ℕ, _<_, _≤_}
 use mathlib.Core.Path.{_≡_}
 use mathlib.Core.Logic.{_≢_}
@@ -10,18 +10,12 @@ use Rattle.word.specs.Word.{pick}
 use Rattle.step.specs.declared.Direction.the-variants.{Forward}
 use Rattle.machine.specs.Calls.{zeros}
 use Rattle.machine.specs.Batch.{BatchPromise}
-use Rattle.machine.specs.declared.Record.{Record}
 use Rattle.machine.specs.declared.Batch.{Batch}
 use Rattle.image.specs.Load.{LoadPromise}
 use Rattle.image.specs.declared.Loaded.{Loaded}
 
 abbrev pub limit : ℕ
 limit = 1000000
-
--- the turns: those of a batch of the limit, with none left unmade but for a refusal
-pub record TurnsAll (r : Record) (mem table : List ℕ) (a : Batch) (mem′ : List ℕ) : Type 0 where
-  pub batch : BatchPromise Forward limit r mem table a mem′
-  pub all : a .turns < limit → a .refusal ≢ 0
 
 abbrev pub noTurns : Batch
 noTurns = record { turns = 0; refusal = 0; state = zeros }
@@ -34,7 +28,13 @@ pub record ProgramPromise (file mem table : List ℕ) (w : ℕ) (a : Batch) (mem
   pub load : LoadPromise file mem table loaded between table′
   pub refusal : w ≡ loaded .refusal
   pub refused : w ≢ 0 → (a ≡ noTurns) × (mem′ ≡ between)
-  pub turned : w ≡ 0 → TurnsAll (loaded .state) between table′ a mem′
+  pub turned : w ≡ 0 → BatchPromise Forward limit (loaded .state) between table′ a mem′
+
+-- So none is left unmade but for a refusal. Proved in proofs/Program.
+abbrev pub NoneLeft : Type 0
+NoneLeft =
+    (file mem table : List ℕ) (w : ℕ) (a : Batch) (mem′ table′ : List ℕ) → ProgramPromise file mem table w a mem′ table′
+    → w ≡ 0 → a .turns < limit → a .refusal ≢ 0
 
 -- The exit status: 3 where not all was written, 1 after a refused load.
 abbrev pub statusOf : (refusal : ℕ) (written : Bool) → ℕ

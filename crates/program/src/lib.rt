@@ -2,7 +2,7 @@
 // turns, and prints the turns, the refusal and the record. What it reads, the arrays that it lends and what
 // it prints are tested; what is done with them is proved.
 ghost use mathlib.Core.Path.{_≡_};
-ghost use Rattle.program.specs.Program.{TurnsAll, ProgramPromise, statusOf, Ran, Exit};
+ghost use Rattle.program.specs.Program.{noTurns, ProgramPromise, statusOf, Ran, Exit};
 use libc::STDERR_FILENO;
 use libc::STDIN_FILENO;
 use libc::STDOUT_FILENO;
@@ -19,34 +19,15 @@ const WORDS: usize = Record::MAX_WORDS as usize;
 
 const LINKS: usize = Record::NODE_WORDS * (Record::MAX_NODES as usize);
 
-fn answer(turns: u32, refusal: u32, state: Record) -> Batch
-    ensures { λ r. ⌜ r ≡ record { turns = turns; refusal = refusal; state = state } ⌝ }
+// What stands for the turns after a refused load.
+fn no_turns() -> Batch
+    ensures { λ r. ⌜ r ≡ noTurns ⌝ }
 {
     Batch {
-        turns,
-        refusal,
-        state,
+        turns: 0,
+        refusal: 0,
+        state: Record::zero(),
     }
-}
-
-// Batches forward until one is refused or LIMIT turns are made; a batch may make fewer than it is asked for.
-fn until(r: Record, mem: &mut [u32], table: &[u32]) -> Batch
-    ensures { λ b. ⌜ TurnsAll r (now (mem .entry)) (now (table .entry)) b (now (mem .exit)) ⌝ }
-{
-    let mut at = r;
-    let mut made = 0;
-    while made < LIMIT {
-        let b = at.forward_batch(LIMIT - made, mem, table);
-        let k = b.turns;
-        let refusal = b.refusal;
-        let next = b.state;
-        if refusal != 0 {
-            return answer(made + k, refusal, next);
-        }
-        at = next;
-        made += k;
-    }
-    answer(made, 0, at)
 }
 
 // What the program does: load's refusal, 0 for none, and the turns that were then made.
@@ -69,9 +50,9 @@ fn turn_image(file: &[u8], mem: &mut [u32], table: &mut [u32]) -> Outcome
     let refusal = loaded.refusal;
     let r = loaded.state;
     if refusal != 0 {
-        return end_with(refusal, answer(0, 0, r));
+        return end_with(refusal, no_turns());
     }
-    end_with(refusal, until(r, mem, table))
+    end_with(refusal, r.forward_batch(LIMIT, mem, table))
 }
 
 fn print_number(x: u32) -> bool {

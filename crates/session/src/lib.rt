@@ -12,7 +12,8 @@ pub struct Bench {
     pub state: Record,
 }
 
-// What a batch on the bench answers: the turns made, k, and the refusal that ended them, 0 for none.
+// What a batch on the bench answers: the turns made, k, and the refusal of the next one where they are fewer
+// than asked for, else 0.
 #[repr(C)]
 pub struct Cranked {
     pub turns: u32,
@@ -51,7 +52,7 @@ pub extern "C" fn bench_back(b: &mut Bench, mem: &mut [u32], table: &[u32]) -> u
     t.refusal
 }
 
-// Up to n turns forward. How many, k, is free within Count; all else follows from it.
+// n turns forward, or those before the first refusal.
 #[no_mangle]
 pub extern "C" fn bench_forward_batch(
     b: &mut Bench,
@@ -70,7 +71,7 @@ pub extern "C" fn bench_forward_batch(
     }
 }
 
-// Up to n turns back.
+// n turns back, likewise.
 #[no_mangle]
 pub extern "C" fn bench_back_batch(b: &mut Bench, n: u32, mem: &mut [u32], table: &[u32]) -> Cranked
     ensures { λ r. ⌜ BatchPromise Direction.Back n (now (b .entry) .state) (now (mem .entry)) (now (table .entry)) (crankedOn (now (b .exit)) r) (now (mem .exit)) ⌝ }

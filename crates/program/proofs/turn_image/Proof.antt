@@ -14,11 +14,11 @@ turn-image-spec =
     let i = c .before .before in
     let o = c .end-with .ensures in
     refused (i .before .before .before .before .before .before .load .ensures) (ap (λ (x : Outcome). x .refusal) o) (λ h. i .if1 .taken (sym (ap (λ (x : Outcome). x .refusal) o) ∙ h))
-    (ap (λ (x : Outcome). x .batch) o) (c .before .answer .ensures))
+    (ap (λ (x : Outcome). x .batch) o) (c .before .no-turns .ensures))
     (λ c κs. search needs) (λ c κs. search needs) (λ c. search needs) (λ c. search needs)
     (λ c.
     let u = c .before .before .before in
     let i = u .before .before .before in
     let o = c .end-with2 .ensures in
     accepted (i .before .before .before .before .before .before .load .ensures) (ap (λ (x : Outcome). x .refusal) o) (ap (λ (x : Outcome). x .refusal) o ∙ i .if1 .left)
-    (ap (λ (x : Outcome). x .batch) o) (u .until .ensures)))
+    (ap (λ (x : Outcome). x .batch) o) (u .forward-batch .ensures)))
