@@ -18,12 +18,11 @@ use std::process::exit;
 use std::time::{Duration, Instant};
 
 use crank_model::instruction::{word_i, word_o, word_r};
-use crank_model::machine::{self, Batch, Record, MAX_M, NODE};
+use crank_model::machine::{self, Record, MAX_M, NODE};
 use crank_model::preview::{self, PreviewCall};
-use crank_model::state::{Machine, Turn, Way, WAYS};
+use crank_model::state::{BatchCall, Machine, Turn, Way, WAYS};
 use crank_model::wheel::{self, SampleCall};
-
-type BatchCall = fn(Record, u32, &mut [u32], &[u32]) -> Batch;
+use proved::bench;
 
 /// Turns made in one direction before they are made in the other; a whole
 /// number of the samples' cycles.
@@ -69,57 +68,6 @@ fn cranks() -> Vec<Crank> {
             previews: [preview::forward, preview::back],
         },
     ]
-}
-
-/// The bench calls with the record copied in and out; a preview takes the
-/// bench's record by value.
-mod bench {
-    use super::proved::{self, Bench};
-    use crank_model::machine::{Batch, Record};
-    use crank_model::preview::Preview;
-    use crank_model::wheel::Wheeled;
-
-    pub fn forward(r: Record, mem: &mut [u32], table: &[u32]) -> (u32, Record) {
-        let mut bench = Bench::new(r);
-        (bench.forward(mem, table), bench.record())
-    }
-
-    pub fn back(r: Record, mem: &mut [u32], table: &[u32]) -> (u32, Record) {
-        let mut bench = Bench::new(r);
-        (bench.back(mem, table), bench.record())
-    }
-
-    fn batch(bench: Bench, (turns, refusal): (u32, u32)) -> Batch {
-        Batch {
-            turns,
-            refusal,
-            record: bench.record(),
-        }
-    }
-
-    pub fn forward_batch(r: Record, n: u32, mem: &mut [u32], table: &[u32]) -> Batch {
-        let mut bench = Bench::new(r);
-        let made = bench.forward_batch(n, mem, table);
-        batch(bench, made)
-    }
-
-    pub fn back_batch(r: Record, n: u32, mem: &mut [u32], table: &[u32]) -> Batch {
-        let mut bench = Bench::new(r);
-        let made = bench.back_batch(n, mem, table);
-        batch(bench, made)
-    }
-
-    pub fn samples(r: Record, given: u8, list: &[u8], mem: &mut [u32], table: &[u32]) -> Wheeled {
-        Bench::new(r).samples(given, list, mem, table)
-    }
-
-    pub fn preview_forward(r: Record, mem: &[u32], table: &[u32]) -> Preview {
-        proved::preview_forward(Bench::new(r).record(), mem, table)
-    }
-
-    pub fn preview_back(r: Record, mem: &[u32], table: &[u32]) -> Preview {
-        proved::preview_back(Bench::new(r).record(), mem, table)
-    }
 }
 
 /// An endless loop over the body, standing at its first word. A branch at the
@@ -221,18 +169,14 @@ fn single_stretch(turn: Turn, machine: &mut Machine) {
 }
 
 fn batch_stretch(call: BatchCall, machine: &mut Machine) {
-    let mut left = STRETCH;
-    while left > 0 {
-        let batch = call(
-            black_box(machine.record),
-            left,
-            black_box(&mut machine.mem),
-            black_box(&machine.table),
-        );
-        assert!(batch.refusal == 0 && batch.turns > 0);
-        left -= batch.turns;
-        machine.record = batch.record;
-    }
+    let batch = call(
+        black_box(machine.record),
+        STRETCH,
+        black_box(&mut machine.mem),
+        black_box(&machine.table),
+    );
+    assert_eq!((batch.turns, batch.refusal), (STRETCH, 0));
+    machine.record = batch.record;
 }
 
 /// The samples after a 0 that turn one stretch, and end at 0 again.

@@ -1,34 +1,67 @@
 //! Comparison of an implementation's answers with the model's.
 
+use std::fmt::{Arguments, Debug};
 use std::hint::black_box;
 
 use crate::cover::Cover;
+use crate::machine::Batch;
 use crate::preview::{Preview, PreviewCall};
 use crate::rng::Rng;
-use crate::state::{Machine, Turn, Way};
+use crate::state::{BatchCall, Machine, Turn, Way};
 use crate::wheel::{self, steps, SampleCall, Wheeled};
 
-/// What a batch gave: the turns made and the refusal.
-#[derive(Clone, Copy, Debug, PartialEq, Eq)]
-pub struct Made {
-    pub turns: u32,
-    pub refusal: u32,
-}
-
-/// Makes the same turn with the model and with `turn`, and compares refusal,
-/// record and all lent words. `machine` becomes the result.
-pub fn same_turn(way: Way, machine: &mut Machine, turn: Turn, cover: &mut Cover) -> u32 {
+/// Makes the same call with the model and with the library, and compares the
+/// whole answer and all lent words. `machine` becomes the result.
+fn same<A: Debug + PartialEq>(
+    what: Arguments,
+    machine: &mut Machine,
+    model: impl FnOnce(&mut Machine) -> A,
+    library: impl FnOnce(&mut Machine) -> A,
+) -> A {
     let start = machine.clone();
     let mut other = machine.clone();
-    let refusal = machine.turn(way.model());
-    let other_refusal = other.turn(turn);
+    let answer = model(machine);
+    let other_answer = library(&mut other);
+    // The table is lent for reading; the compiler may take it as unchanged.
     assert!(
-        refusal == other_refusal && *machine == other,
-        "{way:?} turn differs: model {refusal} {machine:?}, library {other_refusal} {other:?}, \
+        answer == other_answer && *machine == *black_box(&other),
+        "{what} differs: model {answer:?} {machine:?}, library {other_answer:?} {other:?}, \
          from {start:?}"
     );
-    cover.turn(way, &start.record, refusal, machine);
+    answer
+}
+
+/// A single turn of the library and of the model.
+pub fn same_turn(way: Way, machine: &mut Machine, turn: Turn, cover: &mut Cover) -> u32 {
+    let old = machine.record;
+    let refusal = same(
+        format_args!("{way:?} turn"),
+        machine,
+        |m| m.turn(way.model()),
+        |m| m.turn(turn),
+    );
+    cover.turn(way, &old, refusal, machine);
     refusal
+}
+
+/// A batch of the library and of the model.
+pub fn same_batch(way: Way, machine: &mut Machine, n: u32, call: BatchCall) -> Batch {
+    same(
+        format_args!("{way:?} batch of {n}"),
+        machine,
+        |m| m.batch(n, way.model_batch()),
+        |m| m.batch(n, call),
+    )
+}
+
+/// A sample call of the library and of the model.
+pub fn same_samples(machine: &mut Machine, given: u8, samples: &[u8], call: SampleCall) -> Wheeled {
+    same(
+        format_args!("{samples:?} after {given}"),
+        machine,
+        |m| m.samples(given, samples, wheel::samples),
+        |m| m.samples(given, samples, call),
+    )
 }
 
 /// Compares a preview with the model's, field by field, and checks that all
@@ -71,45 +104,39 @@ pub fn returns(way: Way, machine: &Machine, turns: [Turn; 2], cover: &mut Cover)
     assert_eq!(&after, machine, "{way:?} turn, refusal {refusal}");
 }
 
-/// Makes the `made.turns` single turns of a batch of `n` with the model and
-/// checks the bounds on the turns and the refusal.
-pub fn follow(way: Way, model: &mut Machine, n: u32, made: Made, cover: &mut Cover) {
-    assert!(made.turns <= n, "{way:?} batch of {n} gave {made:?}");
-    for i in 0..made.turns {
-        let old = model.record;
-        let refusal = model.turn(way.model());
-        cover.turn(way, &old, refusal, model);
+/// Checks what a batch of `n` gave by the model's single turns, which `machine`
+/// makes: as many as it gave are accepted, and where they are fewer than n the
+/// next one is refused, by the number that it gave. Gives the refusal of the next
+/// turn, which is no part of the batch where all n are made.
+pub fn follow(way: Way, machine: &mut Machine, n: u32, batch: Batch, cover: &mut Cover) -> u32 {
+    assert!(batch.turns <= n, "{way:?} batch of {n} gave {batch:?}");
+    for i in 0..batch.turns {
+        let old = machine.record;
+        let refusal = machine.turn(way.model());
+        cover.turn(way, &old, refusal, machine);
         assert_eq!(
             refusal, 0,
-            "{way:?} batch of {n} gave {made:?}, turn {i} is refused: {model:?}"
+            "{way:?} batch of {n} gave {batch:?}, turn {i} is refused: {machine:?}"
         );
     }
-    let mut expected = 0;
-    if made.turns < n {
-        let mut next = model.clone();
-        expected = next.turn(way.model());
-        cover.turn(way, &model.record, expected, &next);
-        assert!(
-            made.turns > 0 || expected != 0,
-            "{way:?} batch of {n} stays still: {model:?}"
+    let next = machine.clone().turn(way.model());
+    let mut refusal = 0;
+    if batch.turns < n {
+        assert_ne!(
+            next, 0,
+            "{way:?} batch of {n} gave {batch:?}, turn {} is accepted: {machine:?}",
+            batch.turns
         );
+        cover.turn(way, &machine.record, next, machine);
+        refusal = next;
     }
-    assert_eq!(made.refusal, expected, "{way:?} batch of {n}: {model:?}");
-}
-
-/// Gives the same samples to the model and to `call`, and compares the whole
-/// answer and all lent words. `machine` becomes the result.
-pub fn same_samples(machine: &mut Machine, given: u8, samples: &[u8], call: SampleCall) -> Wheeled {
-    let start = machine.clone();
-    let mut other = machine.clone();
-    let answer = machine.samples(given, samples, wheel::samples);
-    let other_answer = other.samples(given, samples, call);
-    assert!(
-        answer == other_answer && *machine == other,
-        "samples differ: model {answer:?} {machine:?}, library {other_answer:?} {other:?}, \
-         from {start:?} by {samples:?} after {given}"
-    );
-    answer
+    let expected = Batch {
+        turns: batch.turns,
+        refusal,
+        record: machine.record,
+    };
+    assert_eq!(batch, expected, "{way:?} batch of {n}");
+    next
 }
 
 /// Makes the single turns that samples name, one by one, past refused ones
@@ -136,20 +163,23 @@ pub fn turn_by_turn(
     counts
 }
 
-/// Whether at most `limit` turns end in a refusal. A batch with a large n is
-/// asked only where they do, as it may otherwise run for very long.
-pub fn ends_within(way: Way, machine: &Machine, limit: u32) -> bool {
+/// The turns before the first refusal, if it comes within `limit` turns.
+fn turns_left(way: Way, machine: &Machine, limit: u32) -> Option<u32> {
     let mut machine = machine.clone();
-    (0..limit).any(|_| machine.turn(way.model()) != 0)
+    (0..limit).find(|_| machine.turn(way.model()) != 0)
 }
 
-/// Numbers for batches: small, edge and large ones.
+/// Numbers for batches: small and middling ones, those around the first
+/// refusal, and the largest. These are asked only where a refusal comes, as the
+/// batch would otherwise run for very long.
 pub fn batch_size(rng: &mut Rng, way: Way, machine: &Machine) -> u32 {
     let small = rng.below(6);
     let middle = rng.below(300);
-    let wanted = rng.pick(&[0, 1, 2, small, middle, 1_000, u32::MAX - 1, u32::MAX]);
-    if wanted > 1_000 && !ends_within(way, machine, 20_000) {
-        return middle;
+    if rng.chance(1, 2) {
+        return rng.pick(&[0, 1, small, middle, 1_000]);
     }
-    wanted
+    match turns_left(way, machine, 20_000) {
+        Some(left) => rng.pick(&[left, left + 1, u32::MAX - 1, u32::MAX]),
+        None => middle,
+    }
 }

@@ -1,8 +1,8 @@
 //! Lists of calls: Left makes any calls, Right the single turns that remain.
 
-use crate::compare::{batch_size, follow, turn_by_turn, Made};
+use crate::compare::{batch_size, follow, turn_by_turn};
 use crate::cover::Cover;
-use crate::machine::{sizes_fit, NODE};
+use crate::machine::{sizes_fit, Batch, NODE};
 use crate::rng::Rng;
 use crate::state::{Machine, Turn, Way, WAYS};
 use crate::walks::random_samples;
@@ -27,6 +27,11 @@ pub struct Gave {
 }
 
 impl Gave {
+    /// What a batch gave.
+    pub fn batch(way: Way, batch: Batch) -> Gave {
+        Gave::one_way(way, batch.turns, batch.refusal)
+    }
+
     /// What a single turn, a batch or a preview gave.
     pub fn one_way(way: Way, turns: u32, refusal: u32) -> Gave {
         let mut accepted = [0; 2];
@@ -59,7 +64,7 @@ fn random_call(rng: &mut Rng, machine: &Machine) -> Call {
 
 /// Makes the turns of a call with the model, and checks what the call gave.
 fn follow_call(call: &Call, model: &mut Machine, gave: Gave, cover: &mut Cover) {
-    // A single turn keeps the rules of a batch of 1.
+    // A single turn gives what a batch of 1 gives.
     let (way, n) = match call {
         Call::Single(way) => (*way, 1),
         Call::Batch(way, n) => (*way, *n),
@@ -68,12 +73,9 @@ fn follow_call(call: &Call, model: &mut Machine, gave: Gave, cover: &mut Cover) 
         }
         Call::Preview(way) => return follow_preview(*way, model, gave, cover),
     };
-    let turns = [gave.forward, gave.back][way as usize] as u32;
-    let made = Made {
-        turns,
-        refusal: gave.refusal,
-    };
-    follow(way, model, n, made, cover);
+    let batch = model.clone().batch(n, way.model_batch());
+    assert_eq!(gave, Gave::batch(way, batch), "{call:?}: {model:?}");
+    follow(way, model, n, batch, cover);
 }
 
 fn follow_samples(given: u8, samples: &[u8], model: &mut Machine, gave: Gave, cover: &mut Cover) {

@@ -287,7 +287,8 @@ pub fn back(r: Record, mem: &mut [u32], table: &[u32]) -> (u32, Record) {
     }
 }
 
-/// What a batch gives: the turns made, the refusal and the record.
+/// What a batch gives (document 02, #103): the turns made; the refusal of the
+/// next one if they are fewer than asked for, else 0; and the record.
 #[derive(Clone, Copy, Debug, PartialEq, Eq)]
 pub struct Batch {
     pub turns: u32,

@@ -1,7 +1,7 @@
-//! A whole state: a record with its lent memory and table, and turns on it in
-//! either direction.
+//! A whole state: a record with its lent memory and table, and turns and
+//! batches on it in either direction.
 
-use crate::machine::{self, Record, NODE};
+use crate::machine::{self, Batch, Record, NODE};
 use crate::rng::Rng;
 
 /// A record with lent memory and table.
@@ -24,6 +24,9 @@ pub const WAYS: [Way; 2] = [Way::Forward, Way::Back];
 /// A single turn, of the model or of the library.
 pub type Turn = fn(Record, &mut [u32], &[u32]) -> (u32, Record);
 
+/// A batch, of the model or of the library.
+pub type BatchCall = fn(Record, u32, &mut [u32], &[u32]) -> Batch;
+
 impl Way {
     pub fn reverse(self) -> Way {
         match self {
@@ -39,6 +42,14 @@ impl Way {
             Way::Back => machine::back,
         }
     }
+
+    /// The model's batch in this direction.
+    pub fn model_batch(self) -> BatchCall {
+        match self {
+            Way::Forward => machine::forward_batch,
+            Way::Back => machine::back_batch,
+        }
+    }
 }
 
 impl Machine {
@@ -47,6 +58,13 @@ impl Machine {
         let (refusal, record) = turn(self.record, &mut self.mem, &self.table);
         self.record = record;
         refusal
+    }
+
+    /// Makes a batch and gives its answer.
+    pub fn batch(&mut self, n: u32, call: BatchCall) -> Batch {
+        let batch = call(self.record, n, &mut self.mem, &self.table);
+        self.record = batch.record;
+        batch
     }
 
     /// The words that the sizes count, all if there are fewer.

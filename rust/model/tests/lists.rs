@@ -8,13 +8,11 @@ use crank_model::generate::for_run;
 use crank_model::lists::{
     count_net, net, other_excess, run_left, run_right, without_previews, Call, Gave, LIST_CASES,
 };
-use crank_model::machine::{self, Batch, Record};
+use crank_model::machine;
 use crank_model::preview::{self, PreviewCall};
 use crank_model::rng::{rounds, Rng};
-use crank_model::state::{Machine, Turn, Way, WAYS};
+use crank_model::state::{BatchCall, Machine, Turn, Way, WAYS};
 use crank_model::wheel::{self, SampleCall, Wheeled};
-
-type BatchCall = fn(Record, u32, &mut [u32], &[u32]) -> Batch;
 
 /// The calls by value, of the model or of the library.
 struct Calls {
@@ -54,10 +52,8 @@ fn by_value(machine: &mut Machine, call: &Call, calls: &Calls) -> Gave {
             Gave::one_way(*way, u32::from(refusal == 0), refusal)
         }
         Call::Batch(way, n) => {
-            let call = calls.batches[*way as usize];
-            let batch = call(machine.record, *n, &mut machine.mem, &machine.table);
-            machine.record = batch.record;
-            Gave::one_way(*way, batch.turns, batch.refusal)
+            let batch = machine.batch(*n, calls.batches[*way as usize]);
+            Gave::batch(*way, batch)
         }
         Call::Samples(given, list) => wheeled(machine.samples(*given, list, calls.samples)),
         Call::Preview(way) => {
@@ -128,11 +124,11 @@ mod bench {
                 Gave::one_way(*way, u32::from(refusal == 0), refusal)
             }
             Call::Batch(way, n) => {
-                let (turns, refusal) = match way {
+                let batch = match way {
                     Way::Forward => bench.forward_batch(*n, mem, table),
                     Way::Back => bench.back_batch(*n, mem, table),
                 };
-                Gave::one_way(*way, turns, refusal)
+                Gave::batch(*way, batch)
             }
         };
         machine.record = bench.record();
@@ -147,22 +143,12 @@ mod bench {
         });
     }
 
-    fn bench_forward(r: Record, mem: &mut [u32], table: &[u32]) -> (u32, Record) {
-        let mut bench = Bench::new(r);
-        (bench.forward(mem, table), bench.record())
-    }
-
-    fn bench_back(r: Record, mem: &mut [u32], table: &[u32]) -> (u32, Record) {
-        let mut bench = Bench::new(r);
-        (bench.back(mem, table), bench.record())
-    }
-
     /// Single turns on the bench from machines for one turn, broken ones too.
     #[test]
     fn single_turns() {
         use crank_model::compare::same_turn;
         use crank_model::generate::for_turn;
-        let turns: [Turn; 2] = [bench_forward, bench_back];
+        let turns: [Turn; 2] = [proved::bench::forward, proved::bench::back];
         let mut rng = Rng::new(44);
         let mut cover = Cover::default();
         for _ in 0..rounds(60_000) {

@@ -136,17 +136,26 @@ impl Bench {
         self.0.back(mem, table)
     }
 
-    pub fn forward_batch(&mut self, n: u32, mem: &mut [u32], table: &[u32]) -> (u32, u32) {
-        let made = self.0.forward_batch(n, mem, table);
-        (made.turns, made.refusal)
-    }
-
-    pub fn back_batch(&mut self, n: u32, mem: &mut [u32], table: &[u32]) -> (u32, u32) {
-        let made = self.0.back_batch(n, mem, table);
-        (made.turns, made.refusal)
-    }
-
     /// The answer, with the record that the bench then has.
+    fn batch(&self, made: calls::Cranked) -> Batch {
+        Batch {
+            turns: made.turns,
+            refusal: made.refusal,
+            record: self.record(),
+        }
+    }
+
+    pub fn forward_batch(&mut self, n: u32, mem: &mut [u32], table: &[u32]) -> Batch {
+        let made = self.0.forward_batch(n, mem, table);
+        self.batch(made)
+    }
+
+    pub fn back_batch(&mut self, n: u32, mem: &mut [u32], table: &[u32]) -> Batch {
+        let made = self.0.back_batch(n, mem, table);
+        self.batch(made)
+    }
+
+    /// The answer, likewise.
     pub fn samples(&mut self, before: u8, list: &[u8], mem: &mut [u32], table: &[u32]) -> Wheeled {
         let sampled = self.0.samples(before, list, mem, table);
         Wheeled {
@@ -157,5 +166,41 @@ impl Bench {
             refusal: sampled.refusal,
             record: self.record(),
         }
+    }
+}
+
+/// The bench calls with the record copied in and out, as those by value are
+/// called; a preview takes the bench's record by value.
+pub mod bench {
+    use super::{Batch, Bench, Preview, Record, Wheeled};
+
+    pub fn forward(r: Record, mem: &mut [u32], table: &[u32]) -> (u32, Record) {
+        let mut bench = Bench::new(r);
+        (bench.forward(mem, table), bench.record())
+    }
+
+    pub fn back(r: Record, mem: &mut [u32], table: &[u32]) -> (u32, Record) {
+        let mut bench = Bench::new(r);
+        (bench.back(mem, table), bench.record())
+    }
+
+    pub fn forward_batch(r: Record, n: u32, mem: &mut [u32], table: &[u32]) -> Batch {
+        Bench::new(r).forward_batch(n, mem, table)
+    }
+
+    pub fn back_batch(r: Record, n: u32, mem: &mut [u32], table: &[u32]) -> Batch {
+        Bench::new(r).back_batch(n, mem, table)
+    }
+
+    pub fn samples(r: Record, given: u8, list: &[u8], mem: &mut [u32], table: &[u32]) -> Wheeled {
+        Bench::new(r).samples(given, list, mem, table)
+    }
+
+    pub fn preview_forward(r: Record, mem: &[u32], table: &[u32]) -> Preview {
+        super::preview_forward(Bench::new(r).record(), mem, table)
+    }
+
+    pub fn preview_back(r: Record, mem: &[u32], table: &[u32]) -> Preview {
+        super::preview_back(Bench::new(r).record(), mem, table)
     }
 }

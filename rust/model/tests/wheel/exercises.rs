@@ -13,8 +13,7 @@ use super::{one_wheel, proved};
 
 /// The turns from an exercise's start to its finish.
 fn turns_to_finish(start: &Machine) -> u32 {
-    let mut machine = start.clone();
-    let batch = forward_batch(start.record, 100_000, &mut machine.mem, &machine.table);
+    let batch = start.clone().batch(100_000, forward_batch);
     assert_eq!(batch.refusal, 12, "the exercise has an end");
     batch.turns
 }

@@ -11,17 +11,12 @@ mod wheels;
 
 use crank_model::compare::{same_samples, turn_by_turn};
 use crank_model::cover::Cover;
-use crank_model::machine::Record;
 use crank_model::state::{Machine, Turn};
 use crank_model::wheel::{steps, SampleCall, Wheeled};
 
 /// The proved call by value and on the lesson bench.
-const CALLS: [SampleCall; 2] = [proved::samples, on_bench];
+const CALLS: [SampleCall; 2] = [proved::samples, proved::bench::samples];
 const TURNS: [Turn; 2] = [proved::forward, proved::back];
-
-fn on_bench(r: Record, given: u8, samples: &[u8], mem: &mut [u32], table: &[u32]) -> Wheeled {
-    proved::Bench::new(r).samples(given, samples, mem, table)
-}
 
 /// Makes both proved calls and compares them with the model and with the
 /// proved single turns that the samples name. `machine` becomes the result.
