@@ -42,8 +42,8 @@ typedef struct Turned {
 
 /* What a batch answers. */
 typedef struct Batch {
-    uint32_t turns; /* turns made */
-    uint32_t refusal;
+    uint32_t turns;   /* turns made */
+    uint32_t refusal; /* of the next turn where they are fewer than asked for, else 0 */
     Record state; /* the record after these turns */
 } Batch;
 
@@ -86,8 +86,8 @@ typedef struct Bench {
 
 /* What a batch on the lesson bench answers. */
 typedef struct Cranked {
-    uint32_t turns; /* turns made */
-    uint32_t refusal;
+    uint32_t turns;   /* turns made */
+    uint32_t refusal; /* of the next turn where they are fewer than asked for, else 0 */
 } Cranked;
 
 /* What encoder samples come to on the lesson bench. */
@@ -132,7 +132,7 @@ CRANK_LAYOUT(offsetof(Sampled, refusal) == 28, "Sampled: last, then refusal");
  * A call takes the record by value and answers with the new one. A turn is refused by 10 where k, m
  * or n of the record is out of range, mem is shorter than m words or table than 9 * n. Longer ones
  * may be lent: the excess is never touched. Only data words of mem change, and nothing writes the
- * table. A batch of 0 turns makes none and answers refusal 0, whatever the sizes are.
+ * table. A batch of 0 turns makes none and answers refusal 0, whatever the state is.
  */
 
 /* 1 where the word is an instruction, else 0. */
@@ -158,14 +158,13 @@ Preview crank_preview_forward(Record r, const uint32_t *mem, size_t mem_len,
 Preview crank_preview_back(Record r, const uint32_t *mem, size_t mem_len,
                            const uint32_t *table, size_t table_len);
 
-/* Up to n turns forward. The first is made if n is not 0 and it is not refused; after that a batch
- * may stop anywhere. Record and mem are as after so many single turns, with a refusal too. The
- * refusal is that of the next turn where fewer than n are made and the next is refused, else 0:
- * with fewer than n and refusal 0, call again for the rest. */
+/* n turns forward, or as many as come before the first refusal. Record and mem are as after so many
+ * single turns, with a refusal too. A refusal stands exactly where fewer than n are made: it is that
+ * of the next turn. */
 Batch crank_forward_batch(Record r, uint32_t n, uint32_t *mem, size_t mem_len,
                           const uint32_t *table, size_t table_len);
 
-/* Up to n turns back, likewise. */
+/* n turns back, or as many as come before the first refusal, likewise. */
 Batch crank_back_batch(Record r, uint32_t n, uint32_t *mem, size_t mem_len,
                        const uint32_t *table, size_t table_len);
 
@@ -214,8 +213,8 @@ uint32_t bench_forward(Bench *b, uint32_t *mem, size_t mem_len,
 uint32_t bench_back(Bench *b, uint32_t *mem, size_t mem_len,
                     const uint32_t *table, size_t table_len);
 
-/* Up to n turns, by the rules of crank_forward_batch: *b and mem are as after the turns made, with
- * a refusal too. */
+/* n turns, or as many as come before the first refusal, by the rules of crank_forward_batch: *b and
+ * mem are as after the turns made, with a refusal too. */
 Cranked bench_forward_batch(Bench *b, uint32_t n, uint32_t *mem, size_t mem_len,
                             const uint32_t *table, size_t table_len);
 Cranked bench_back_batch(Bench *b, uint32_t n, uint32_t *mem, size_t mem_len,

@@ -237,7 +237,8 @@ static uint32_t until_refused(const Mode *mode, Machine *m, int way)
         int waits = m->bench.state.qifw > 0;
         c = call(mode, m, way);
         demand(c.turns <= mode->n, "more turns than asked for");
-        demand(c.turns > 0 || c.refusal > 0, "no turn and no refusal");
+        demand((c.turns < mode->n) == (c.refusal > 0),
+               "a refusal where no turn is missing, or none where one is");
         made += c.turns;
         demand(made <= MAX_TURNS, "the turns do not end");
         waited += mode->n == 1 && waits && c.turns == 1;

@@ -36,6 +36,7 @@ pub struct Preview {
 pub struct Batch {
     /// The turns made.
     pub turns: u32,
+    /// That of the next turn where fewer were made than asked for, else 0.
     pub refusal: u32,
     /// The record after these turns.
     pub state: Record,
@@ -90,6 +91,7 @@ pub struct Bench {
 pub struct Cranked {
     /// The turns made.
     pub turns: u32,
+    /// As that of [`Batch`].
     pub refusal: u32,
 }
 
@@ -266,7 +268,7 @@ pub fn preview_back(r: Record, mem: &[u32], table: &[u32]) -> Preview {
     unsafe { crank_preview_back(r, mem.as_ptr(), mem.len(), table.as_ptr(), table.len()) }
 }
 
-/// Up to `n` turns forward; it may stop early, but makes at least one or refuses.
+/// `n` turns forward, or those before the first refusal, whose number it then gives.
 pub fn forward_batch(r: Record, n: u32, mem: &mut [u32], table: &[u32]) -> Batch {
     // SAFETY: pointers and lengths come from live slices.
     unsafe {
@@ -281,7 +283,7 @@ pub fn forward_batch(r: Record, n: u32, mem: &mut [u32], table: &[u32]) -> Batch
     }
 }
 
-/// Up to `n` turns back, likewise.
+/// `n` turns back, likewise.
 pub fn back_batch(r: Record, n: u32, mem: &mut [u32], table: &[u32]) -> Batch {
     // SAFETY: pointers and lengths come from live slices.
     unsafe {
@@ -391,7 +393,7 @@ impl Bench {
         }
     }
 
-    /// Up to `n` turns forward, by the rules of [`forward_batch`].
+    /// `n` turns forward, by the rules of [`forward_batch`].
     pub fn forward_batch(&mut self, n: u32, mem: &mut [u32], table: &[u32]) -> Cranked {
         // SAFETY: self and the slices are live and not aliased.
         unsafe {
@@ -406,7 +408,7 @@ impl Bench {
         }
     }
 
-    /// Up to `n` turns back, likewise.
+    /// `n` turns back, likewise.
     pub fn back_batch(&mut self, n: u32, mem: &mut [u32], table: &[u32]) -> Cranked {
         // SAFETY: self and the slices are live and not aliased.
         unsafe {

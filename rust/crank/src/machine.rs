@@ -87,7 +87,7 @@ impl Machine {
     pub fn turns(&mut self, direction: Direction, count: u64) -> Made {
         let mut turns = 0;
         while turns < count {
-            // A batch may stop early; it makes at least one turn or refuses.
+            // The rest, or the most that one batch may be asked for.
             let asked = u32::try_from(count - turns).unwrap_or(u32::MAX);
             let batch = self.batch(direction, asked);
             turns += u64::from(batch.turns);
