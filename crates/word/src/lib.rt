@@ -6,6 +6,8 @@ ghost use lib.Bits.{bitXor};
 ghost use lib.Dec.{eqb, ltb};
 ghost use Rattle.word.specs.Word.{pick, addWord, subWord, mulWord, divWord, complement, withBit};
 
+pub mod signed;
+
 pub fn add_word(a: u32, b: u32) -> u32
     ensures { λ r. ⌜ r ≡ addWord a b ⌝ }
 {
