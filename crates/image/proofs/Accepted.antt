@@ -15,7 +15,7 @@ use Rattle.step.proofs.Views.{view-long}
 use Rattle.machine.specs.declared.Record.{Record}
 use Rattle.machine.specs.Calls.{statusOf, wrongSizes}
 use Rattle.image.specs.Format.{wordAt, newest, backAt, backOf, trailerIn, stateIn, backIn}
-use Rattle.image.specs.Load.{badLength, hasLast, fileRefusal, loadRefusal, startIn}
+use Rattle.image.specs.Load.{badLength, hasLast, isCut, fileRefusal, loadRefusal, startIn}
 use Rattle.image.specs.Save.{SaveDecided}
 
 -- a test that refuses by a number other than 0 did not hold
@@ -28,7 +28,8 @@ unfolding fileRefusal
 file-accepted s rest h =
     let p = pick-zero (badLength s) 1 (omega arith) h in
     let q = pick-zero (not (hasLast s)) 2 (omega arith) (p .1) in
-    let r = pick-zero (not (inRange (statusOf (stateIn s)))) 3 (omega arith) (q .1) in
+    let w = pick-zero (isCut s) 1 (omega arith) (q .1) in
+    let r = pick-zero (not (inRange (statusOf (stateIn s)))) 3 (omega arith) (w .1) in
     let t = pick-zero (not (eqb (wordAt (trailerIn s) backAt) (backIn s))) 4 (omega arith) (r .1) in
     let u = pick-zero (ltb (length s) (backIn s)) 5 (omega arith) (t .1) in
     (ltb-false (length s) (backIn s) (u .0), u .1)

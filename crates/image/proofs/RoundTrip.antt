@@ -1,23 +1,25 @@
 -- Load reads back what save writes, behind any preface. Assumes nothing.
-use mathlib.Core.Path.{_≡_, refl, sym, ap, _∙_}
+use mathlib.Core.Path.{_≡_, refl, sym, ap, _∙_, subst}
 use mathlib.Core.Bool.{true, not}
 use mathlib.Core.List.{List, _∷_, _++_, append-assoc}
 use Prim.Native.Nat.{ℕ, zero, suc, _+_, _-_, _*_, _≤_}
 use native.Mathlib.Omega.{arith}
+use lib.IntN.{ℤ}
 use lib.ListN.{length, getD, take, drop, length-append}
 use lib.Seq.{take-at, take-all, drop-at, length-take-le, getD-append-add}
 use borrow.Author.Tests.{le-ltb, le-leb, eq-eqb}
 use Rattle.word.specs.Word.{pick}
+use Rattle.word.proofs.Bits.{joined}
 use Rattle.step.specs.View.{Words}
 use Rattle.step.specs.Table.{tableWords}
 use Rattle.step.specs.Sizes.{isEnough}
 use Rattle.machine.specs.declared.Record.{Record}
-use Rattle.machine.specs.Calls.{statusOf}
+use Rattle.machine.specs.Calls.{statusOf, updated}
 use Rattle.image.specs.declared.kinds.Kind.{Kind}
 use Rattle.image.specs.declared.Loaded.{Loaded}
-use Rattle.image.specs.Format.{bytesOf, wordAt, wordsOf, kinds, newest, same, kindBy, backAt, mAt, kAt, nAt, regsAt, qifvAt, qifwAt, wordCount, trailerLength, backOf, further, tailWords, trailerWords, trailerBytes, recordIn, imageBytes, lastBytes, kindOf, trailerIn, stateIn}
+use Rattle.image.specs.Format.{bytesOf, wordAt, wordsOf, kinds, newest, oldest, same, kindBy, backAt, mAt, kAt, nAt, regsAt, qifvAt, qifwAt, positionAt, wordCount, trailerLength, backOf, further, tailWords, trailerWords, trailerBytes, recordIn, kept, imageBytes, lastBytes, kindOf, trailerIn, stateIn}
 use Rattle.image.specs.Load.{maxFile, fileRefusal, loadRefusal, LoadPromise, prefaceOf}
-use Rattle.image.specs.Claims.{FirstBack, Row, KindsFound, Restored, ReadsAs, Savable, ImageLength, ImageLoads, SaveAccepts, SavedLoads}
+use Rattle.image.specs.Claims.{Backs, Keeps, Row, KindsFound, Restored, ReadsAs, Savable, ImageLength, ImageLoads, SaveAccepts, SavedLoads}
 use Rattle.image.proofs.Bytes.{length-bytes, bytes-append, read-back, words-back}
 use Rattle.machine.proofs.Given.{words-take}
 use Rattle.image.proofs.Given.{words-cons, words-append}
@@ -51,7 +53,7 @@ module _ (kind : Kind) (r : Record) (mem table : List ℕ) (row : Row kind) (v :
   words-long : length (trailerWords kind r) ≡ wordCount kind
   words-long =
       let e = length-take-le (kind .more) (further r) (row .within) in
-      simp (length-append, v .bounds .view .sixteen, e) (omega arith)
+      simp (length-append, v .bounds .turn .view .sixteen, e) (omega arith)
 
   words-bytes-long : length (bytesOf (trailerWords kind r)) ≡ 4 * wordCount kind
   words-bytes-long = length-bytes (trailerWords kind r) ∙ ap (λ (n : ℕ). 4 * n) words-long
@@ -75,7 +77,7 @@ module _ (kind : Kind) (r : Record) (mem table : List ℕ) (row : Row kind) (v :
         let z = sizes in
         let more = words-take (kind .more) (further r) (λ a. v .bounds .tail (suc (suc a))) in
         let e = words-cons (r .qifv) (r .qifw ∷ take (kind .more) (further r)) (v .bounds .tail 0) (words-cons (r .qifw) (take (kind .more) (further r)) (v .bounds .tail 1) more) in
-        let a = words-append (r .regs) tail (v .bounds .view .regs) e in
+        let a = words-append (r .regs) tail (v .bounds .turn .view .regs) e in
         let b = words-cons (r .n) (r .regs ++ tail) (omega (arith, z .nodes)) a in
         let c = words-cons (r .k) (r .n ∷ r .regs ++ tail) (omega (arith, z .code, z .words)) b in
         let d = words-cons (r .m) (r .k ∷ r .n ∷ r .regs ++ tail) (omega (arith, z .words)) c in
@@ -90,15 +92,16 @@ module _ (kind : Kind) (r : Record) (mem table : List ℕ) (row : Row kind) (v :
     regs-back : wordsOf 16 (drop (4 * regsAt) t) ≡ r .regs
     unfolding bytesOf
     regs-back =
-        rw (bytes-append (r .regs) tail) (all-back (r .regs) (bytesOf tail) (v .bounds .view .sixteen) (v .bounds .view .regs))
+        rw (bytes-append (r .regs) tail) (all-back (r .regs) (bytesOf tail) (v .bounds .turn .view .sixteen) (v .bounds .turn .view .regs))
 
     -- word j behind the registers
     tail-back : (j : ℕ) → getD (r .regs ++ tail) (16 + j) 0 ≡ getD tail j 0
-    tail-back j = ap (λ (n : ℕ). getD (r .regs ++ tail) (n + j) 0) (sym (v .bounds .view .sixteen)) ∙ getD-append-add (r .regs) tail j 0
+    tail-back j = ap (λ (n : ℕ). getD (r .regs ++ tail) (n + j) 0) (sym (v .bounds .turn .view .sixteen)) ∙ getD-append-add (r .regs) tail j 0
 
-    record-back : recordIn t ≡ r
+    record-back : recordIn t ≡ kept kind r
     unfolding recordIn
-    record-back = rw (regs-back, word-back qifvAt ∙ tail-back 0, word-back qifwAt ∙ tail-back 1, word-back mAt, word-back kAt, word-back nAt)
+    record-back =
+        rw (regs-back, word-back qifvAt ∙ tail-back 0, word-back qifwAt ∙ tail-back 1, word-back mAt, word-back kAt, word-back nAt, word-back positionAt ∙ tail-back 2, word-back (positionAt + 1) ∙ tail-back 3)
 
     -- what load finds
 
@@ -130,7 +133,7 @@ module _ (kind : Kind) (r : Record) (mem table : List ℕ) (row : Row kind) (v :
         (ap (take (4 * wordCount kind)) (ap (lastBytes (trailerLength kind)) trailer-last ∙ last-behind front (trailerBytes kind r) (trailerLength kind) trailer-long)
         ∙ take-at t (kind .last) (4 * wordCount kind) words-bytes-long)
 
-    state-found : stateIn file ≡ r
+    state-found : stateIn file ≡ kept kind r
     state-found = ap recordIn trailer-found ∙ record-back
 
     image-found : lastBytes (backOf kind r) file ≡ imageBytes kind r mem table
@@ -140,7 +143,7 @@ module _ (kind : Kind) (r : Record) (mem table : List ℕ) (row : Row kind) (v :
     unfolding fileRefusal
     file-passes rest =
         let n = file-long in
-        rw (state-found, trailer-found, kind-found, bytes-last, same-refl (kind .last), sizes .range, eq-eqb (wordAt t backAt) (backOf kind r) (word-back backAt), le-leb (trailerLength kind) (length file) (omega arith), le-leb (length file) maxFile (omega arith), le-ltb (length file) (backOf kind r) (omega arith))
+        rw (state-found, trailer-found, kind-found, bytes-last, same-refl (kind .last), sizes .range, le-ltb (length file) (trailerLength kind) (omega arith), eq-eqb (wordAt t backAt) (backOf kind r) (word-back backAt), le-leb (trailerLength oldest) (length file) (omega arith), le-leb (length file) maxFile (omega arith), le-ltb (length file) (backOf kind r) (omega arith))
 
     preface-found : prefaceOf file ≡ p
     preface-found =
@@ -151,7 +154,7 @@ module _ (kind : Kind) (r : Record) (mem table : List ℕ) (row : Row kind) (v :
       load-passes = file-passes (pick (not (isEnough (statusOf (stateIn file)) (length a) (length b))) 6 0) ∙ rw (state-found, e)
 
       memory-back : wordsOf (r .m) (imageBytes kind r mem table) ≡ words
-      memory-back = all-back words (bytesOf links ++ trailerBytes kind r) (length-take-le (r .m) mem (sizes .memory)) (v .bounds .view .words)
+      memory-back = all-back words (bytesOf links ++ trailerBytes kind r) (length-take-le (r .m) mem (sizes .memory)) (v .bounds .turn .view .words)
 
       links-back : wordsOf (tableWords (r .n)) (drop (4 * r .m) (imageBytes kind r mem table)) ≡ links
       links-back =
@@ -159,7 +162,7 @@ module _ (kind : Kind) (r : Record) (mem table : List ℕ) (row : Row kind) (v :
           rw (drop-at (bytesOf words) (bytesOf links ++ trailerBytes kind r) (4 * r .m) (length-bytes words ∙ rw n))
           (all-back links (trailerBytes kind r) (length-take-le (tableWords (r .n)) table (sizes .links)) (v .bounds .links))
 
-      restored : Restored r mem table a b x a′ b′
+      restored : Restored (kept kind r) mem table a b x a′ b′
       restored =
           record {
             answer = l .answer ∙ rw (load-passes, state-found);
@@ -167,18 +170,22 @@ module _ (kind : Kind) (r : Record) (mem table : List ℕ) (row : Row kind) (v :
             links = l .links ∙ rw (load-passes, state-found, kind-found, image-found, links-back);
           }
 
-    pub reads-back : ReadsAs file p r mem table
+    pub reads-back : ReadsAs file p (kept kind r) mem table
     reads-back = record { preface = preface-found; load = λ a b x a′ b′ l e. restored l e }
 
 -- ---- the claims
 
-pub first-back : FirstBack
-first-back r = omega arith
+pub backs : Backs
+backs = record { first = λ r. omega arith; second = λ r. omega arith }
+
+pub keeps : Keeps
+keeps = record { newest = λ r f. ap (λ (p : ℤ). updated r p (statusOf r) (r .regs)) (joined (r .position) f); first = λ r. refl }
 
 pub kinds-found : KindsFound
 unfolding kindBy same
 kinds-found zero h = record { four = refl; found = refl; within = omega arith }
-kinds-found (suc i) h = absurd (omega (arith, h))
+kinds-found (suc zero) h = record { four = refl; found = refl; within = omega arith }
+kinds-found (suc (suc i)) h = absurd (omega (arith, h))
 
 pub image-long : ImageLength
 image-long = image-length
@@ -199,5 +206,5 @@ saved-loads r mem table out out′ s =
     let e : take b out′ ≡ imageBytes newest r mem table =
     ap (take b) (s .output ∙ rw (sym (s .decided .answer))) ∙ take-at (imageBytes newest r mem table) (drop b out) b (image-length newest r mem table row v) in (
       omega arith,
-      λ p h. rw e (reads-back newest r mem table row v p h),
+      λ p h. rw e (subst (λ (u : Record). ReadsAs (p ++ imageBytes newest r mem table) p u mem table) (keeps .newest r (v .bounds .turn .position)) (reads-back newest r mem table row v p h)),
     )

@@ -1,14 +1,19 @@
 -- The trailer and the image as their writers leave them: words, words behind them, and bytes behind all. Assumes nothing.
-use mathlib.Core.Path.{_≡_, refl, sym, _∙_}
+use mathlib.Core.Path.{_≡_, refl, sym, ap, _∙_, subst}
 use mathlib.Core.List.{List, [], _∷_, _++_, append-assoc}
-use Prim.Native.Nat.{ℕ, _+_, _-_, _*_}
+use Prim.Native.Nat.{ℕ, _+_, _-_, _*_, _/_, _%_, _^_}
 use native.Mathlib.Omega.{arith}
+use lib.IntN.{ℤ}
 use lib.ListN.{length, drop, length-append}
+use mir.Syntax.{w64}
+use mir.Val.{SFits, ofZ}
+use mir.Facts.{toZ-ofZ}
 use borrow.Rule.Slice.PartMut.{midOf, putMid}
+use Rattle.word.proofs.Bits.{asRead}
 use Rattle.step.specs.Table.{tableWords}
 use Rattle.machine.specs.declared.Record.{Record}
 use Rattle.image.specs.declared.kinds.Kind.{Kind}
-use Rattle.image.specs.Format.{bytesOf, newest, regsAt, qifvAt, wordCount, trailerLength, backOf, tailWords, trailerWords, trailerBytes, image}
+use Rattle.image.specs.Format.{bytesOf, newest, regsAt, qifvAt, wordCount, trailerLength, backOf, positionWords, further, tailWords, trailerWords, trailerBytes, image}
 use Rattle.image.proofs.Bytes.{length-bytes, bytes-append}
 use Rattle.image.proofs.Parts.{behind}
 
@@ -30,7 +35,19 @@ module _ (a out l : List ℕ) (x : ℕ) (e : x ≡ 4 * length a) (f : Front a ou
 
 -- ---- the trailer that save writes
 
--- the sizes, the registers and qifv and qifw
+-- the two words of a position that is read from its bits
+pub position-written : {p : ℤ} {bits low high : ℕ} → SFits w64 p → bits ≡ ofZ w64 (asRead p) → low ≡ bits % 2 ^ 32 → high ≡ bits / 2 ^ 32
+    → low ∷ high ∷ [] ≡ positionWords p
+position-written {p} f e l h =
+    let k = e ∙ ap (ofZ w64) (toZ-ofZ f) in
+    rw (l, h, k)
+
+-- qifv and qifw, and the position behind them
+pub tail-written : (r : Record) (out l : List ℕ) {low high : ℕ} → low ∷ high ∷ [] ≡ further r → Front (r .qifv ∷ r .qifw ∷ low ∷ high ∷ []) out l
+    → Front (tailWords newest r) out l
+tail-written r out l e f = subst (λ (w : List ℕ). Front (r .qifv ∷ r .qifw ∷ w) out l) e f
+
+-- the sizes, the registers and what is behind them
 pub fields-written : (r : Record) (out : List ℕ) {b : ℕ} → length (r .regs) ≡ 16 → b ≡ backOf newest r → (l part l′ part′ : List ℕ)
     → (let head = b ∷ r .m ∷ r .k ∷ r .n ∷ [] in
     let tail = tailWords newest r in

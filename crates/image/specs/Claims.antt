@@ -3,23 +3,27 @@ use Prim.Native.Nat.{ℕ, _+_, _*_, _<_, _≤_}
 use mathlib.Core.Path.{_≡_}
 use mathlib.Core.Bool.{true, false}
 use mathlib.Core.List.{List, _++_}
+use lib.IntN.{pos}
 use lib.ListN.{length, getD, take, drop}
+use mir.Syntax.{w64}
+use mir.Val.{SFits}
 use Rattle.step.specs.Table.{tableWords}
 use Rattle.step.specs.View.{nodes}
 use Rattle.step.specs.Sizes.{isEnough}
 use Rattle.machine.specs.declared.Record.{Record}
-use Rattle.machine.specs.Calls.{statusOf, wrongSizes}
+use Rattle.machine.specs.Calls.{statusOf, updated, wrongSizes}
 use Rattle.image.specs.declared.kinds.Kind.{Kind}
 use Rattle.image.specs.declared.Loaded.{Loaded}
-use Rattle.image.specs.Format.{qrm1, kinds, newest, kindBy, backOf, kept, imageBytes}
+use Rattle.image.specs.Format.{qrm1, qrm2, kinds, newest, kindBy, backOf, kept, imageBytes}
 use Rattle.image.specs.Load.{maxFile, LoadPromise, prefaceOf}
 use Rattle.image.specs.Save.{SaveBounds, SavePromise}
 
 -- ---- the kinds
 
--- Claim: the back of the first kind is 4 M + 36 N + 92
-abbrev pub FirstBack : Type 0
-FirstBack = (r : Record) → backOf qrm1 r ≡ 4 * r .m + 36 * r .n + 92
+-- Claim: the back of the first kind is 4 M + 36 N + 92, and that of the second 8 more
+pub record Backs : Type 0 where
+  pub first : (r : Record) → backOf qrm1 r ≡ 4 * r .m + 36 * r .n + 92
+  pub second : (r : Record) → backOf qrm2 r ≡ 4 * r .m + 36 * r .n + 100
 
 -- a row of the table: its four last bytes find it, and it has no more words than the newest
 pub record Row (kind : Kind) : Type 0 where
@@ -30,6 +34,11 @@ pub record Row (kind : Kind) : Type 0 where
 -- Claim: every kind of the table is such a row
 abbrev pub KindsFound : Type 0
 KindsFound = (i : ℕ) → i < length kinds → Row (getD kinds i newest)
+
+-- Claim: the newest kind has all of a record, and the first all but the position, which is then 0
+pub record Keeps : Type 0 where
+  pub newest : (r : Record) → SFits w64 (r .position) → kept newest r ≡ r
+  pub first : (r : Record) → kept qrm1 r ≡ updated r (pos 0) (statusOf r) (r .regs)
 
 -- ---- what a file is read as
 

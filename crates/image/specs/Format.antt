@@ -1,10 +1,13 @@
--- An image (document 01, "Image"): M memory words, 9 N table words and a trailer, as little-endian bytes.
+-- An image (document 01, "Image"; document 02, #104): M memory words, 9 N table words and a trailer, as little-endian bytes.
 -- Writing and reading both go by this file, and over the kinds of image.
-use Prim.Native.Nat.{ℕ, zero, suc, _+_, _-_, _*_, _/_, _%_}
+use Prim.Native.Nat.{ℕ, zero, suc, _+_, _-_, _*_, _/_, _%_, _^_}
 use mathlib.Core.Bool.{Bool, true, false, _&&_}
 use mathlib.Core.List.{List, [], _∷_, _++_}
 use lib.Dec.{eqb}
+use lib.IntN.{ℤ}
 use lib.ListN.{length, getD, take, drop}
+use mir.Syntax.{w64}
+use mir.Val.{ofZ, toZ}
 use Rattle.word.specs.Word.{pick}
 use Rattle.step.specs.Table.{tableWords}
 use Rattle.machine.specs.declared.Record.{Record}
@@ -38,12 +41,16 @@ wordsOf (suc n) s = wordsOf n s ++ (wordAt s n ∷ [])
 abbrev pub qrm1 : Kind
 qrm1 = record { last = 0x51 ∷ 0x52 ∷ 0x4D ∷ 0x31 ∷ []; more = 0 }
 
+-- with the position
+abbrev pub qrm2 : Kind
+qrm2 = record { last = 0x51 ∷ 0x52 ∷ 0x4D ∷ 0x32 ∷ []; more = 2 }
+
 -- newest first: save writes the newest, load takes all
 abbrev pub kinds : List Kind
-kinds = qrm1 ∷ []
+kinds = qrm2 ∷ qrm1 ∷ []
 
 abbrev pub newest : Kind
-newest = qrm1
+newest = qrm2
 
 abbrev pub oldest : Kind
 oldest = qrm1
@@ -87,6 +94,9 @@ qifwAt = qifvAt + 1
 abbrev pub moreAt : ℕ
 moreAt = qifwAt + 1
 
+abbrev pub positionAt : ℕ
+positionAt = moreAt
+
 -- how many words, and its length in bytes: 92 for the first kind
 abbrev pub wordCount : Kind → ℕ
 wordCount kind = moreAt + kind .more
@@ -98,13 +108,23 @@ trailerLength kind = 4 * wordCount kind + 4
 abbrev pub backOf : Kind → Record → ℕ
 backOf kind r = 4 * r .m + 4 * tableWords (r .n) + trailerLength kind
 
--- what newer kinds have more, in their order: nothing yet
+-- a position's 64 bits, in two's complement, as two words, low first; and the position of two words
+abbrev pub positionWords : ℤ → List ℕ
+positionWords p = ofZ w64 p % 2 ^ 32 ∷ ofZ w64 p / 2 ^ 32 ∷ []
+
+abbrev pub positionOf : ℕ → ℕ → ℤ
+positionOf low high = toZ w64 (low + 2 ^ 32 * high)
+
+-- what newer kinds have more, in their order, and what a kind has of it
 abbrev pub further : Record → List ℕ
-further r = []
+further r = positionWords (r .position)
+
+abbrev pub moreWords : Kind → Record → List ℕ
+moreWords kind r = take (kind .more) (further r)
 
 -- the words behind the registers, and all words
 abbrev pub tailWords : Kind → Record → List ℕ
-tailWords kind r = r .qifv ∷ r .qifw ∷ take (kind .more) (further r)
+tailWords kind r = r .qifv ∷ r .qifw ∷ moreWords kind r
 
 abbrev pub trailerWords : Kind → Record → List ℕ
 trailerWords kind r = backOf kind r ∷ r .m ∷ r .k ∷ r .n ∷ r .regs ++ tailWords kind r
@@ -122,11 +142,22 @@ recordIn t =
       k = wordAt t kAt;
       m = wordAt t mAt;
       n = wordAt t nAt;
+      position = positionOf (wordAt t positionAt) (wordAt t (positionAt + 1));
     }
 
--- r as an image of the kind has it: with 0 for each field whose words it lacks, which is none yet
+-- r as an image of the kind has it, where a word that it lacks is 0
 abbrev pub kept : Kind → Record → Record
-kept kind r = r
+kept kind r =
+    let l = moreWords kind r in
+    record {
+      regs = r .regs;
+      qifv = r .qifv;
+      qifw = r .qifw;
+      k = r .k;
+      m = r .m;
+      n = r .n;
+      position = positionOf (getD l 0 0) (getD l 1 0);
+    }
 
 -- ---- the image
 

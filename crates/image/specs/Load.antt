@@ -1,4 +1,4 @@
--- Load and preface (document 01, "Image").
+-- Load and preface (document 01, "Image"; document 02, #104).
 use Prim.Native.Nat.{ℕ, _-_, _*_}
 use mathlib.Core.Path.{_≡_}
 use mathlib.Core.Bool.{Bool, not, _&&_}
@@ -10,28 +10,33 @@ use Rattle.step.specs.Table.{tableWords}
 use Rattle.step.specs.Sizes.{inRange, isEnough}
 use Rattle.machine.specs.Calls.{statusOf, zeros}
 use Rattle.image.specs.declared.Loaded.{Loaded}
-use Rattle.image.specs.Format.{wordAt, wordsOf, same, backAt, trailerLength, lastBytes, kindOf, trailerIn, stateIn, backIn}
+use Rattle.image.specs.Format.{wordAt, wordsOf, oldest, same, backAt, trailerLength, lastBytes, kindOf, trailerIn, stateIn, backIn}
 
 abbrev pub maxFile : ℕ
 maxFile = 65536
 
--- under the trailer of its kind, 92 where it is of none, or over 65,536 bytes
+-- under 92, the first kind's trailer, or over 65,536 bytes
 abbrev pub badLength : List ℕ → Bool
-badLength s = not (leb (trailerLength (kindOf s)) (length s) && leb (length s) maxFile)
+badLength s = not (leb (trailerLength oldest) (length s) && leb (length s) maxFile)
 
 -- the last four bytes are those of its kind
 abbrev pub hasLast : List ℕ → Bool
 hasLast s = same (lastBytes 4 s) (kindOf s .last)
+
+-- under the trailer of its kind
+abbrev pub isCut : List ℕ → Bool
+isCut s = ltb (length s) (trailerLength (kindOf s))
 
 -- refusals 1 to 5, in order, and what follows them
 unfoldable pub fileRefusal : List ℕ → ℕ → ℕ
 fileRefusal s rest =
     pick (badLength s) 1
     (pick (not (hasLast s)) 2
+    (pick (isCut s) 1
     (pick (not (inRange (statusOf (stateIn s)))) 3
     (pick (not (eqb (wordAt (trailerIn s) backAt) (backIn s))) 4
     (pick (ltb (length s) (backIn s)) 5
-    rest))))
+    rest)))))
 
 -- and 6: lent memory or table too short
 abbrev pub loadRefusal : List ℕ → List ℕ → List ℕ → ℕ

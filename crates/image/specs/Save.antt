@@ -5,9 +5,9 @@ use mathlib.Core.List.{List, _++_}
 use lib.Dec.{eqb, ltb}
 use lib.ListN.{length, drop}
 use Rattle.word.specs.Word.{pick}
-use Rattle.step.specs.View.{Words, Bounds, nodes}
+use Rattle.step.specs.View.{Words, nodes}
 use Rattle.machine.specs.declared.Record.{Record}
-use Rattle.machine.specs.Calls.{statusOf, viewOf, wrongSizes}
+use Rattle.machine.specs.Calls.{statusOf, wrongSizes, machineOf, Bounded}
 use Rattle.image.specs.Format.{newest, backOf, tailWords, imageBytes}
 
 -- 10, as in a turn, then 9
@@ -21,7 +21,7 @@ outAfterSave r mem table out =
 
 -- The bounds that the claims ask for and the types give: those of a turn, and words of 32 bits for the rest of what is saved.
 pub record SaveBounds (r : Record) (mem table : List ℕ) : Type 0 where
-  pub view : Bounds (viewOf r mem)
+  pub turn : Bounded (machineOf r mem)
   pub tail : Words (tailWords newest r)
   pub links : Words (nodes (statusOf r) table)
 

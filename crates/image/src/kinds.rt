@@ -13,12 +13,18 @@ const QRM1: Kind = Kind {
     more: 0,
 };
 
+// With the position.
+const QRM2: Kind = Kind {
+    last: *b"QRM2",
+    more: 2,
+};
+
 // Newest first: save writes the newest, load takes all.
-const KINDS: [Kind; 1] = [QRM1];
+const KINDS: [Kind; 2] = [QRM2, QRM1];
 
-pub(crate) const NEWEST: Kind = QRM1;
+pub(crate) const NEWEST: Kind = QRM2;
 
-const OLDEST: Kind = QRM1;
+pub(crate) const OLDEST: Kind = QRM1;
 
 // How many bytes tell the kind.
 pub(crate) const LAST: usize = 4;

@@ -3,11 +3,12 @@ ghost use mathlib.Core.Path.{_≡_};
 ghost use mathlib.Core.List.{_++_};
 ghost use Prim.Native.Nat.{_*_, _^_, _<_, _≤_};
 ghost use lib.ListN.{length, drop};
-ghost use Rattle.image.specs.Format.{bytesOf, newest, wordCount, trailerLength, backOf, trailerWords, trailerBytes, recordIn, trailerIn, stateIn};
+ghost use Rattle.image.specs.Format.{bytesOf, newest, wordCount, trailerLength, backOf, tailWords, trailerWords, trailerBytes, recordIn, trailerIn, stateIn};
 ghost use Rattle.image.specs.Load.{fileRefusal, startIn};
 use crate::kinds::Kind;
 use crate::kinds::LAST;
 use crate::kinds::NEWEST;
+use crate::kinds::OLDEST;
 use crate::kinds::has_last;
 use crate::kinds::kind_of;
 use crate::kinds::last_bytes;
@@ -19,11 +20,17 @@ use crate::words::write_words;
 use machine::Record;
 use step::sizes::is_in_range;
 use step::table::table_words;
+use word::signed::bits_of;
+use word::signed::high;
+use word::signed::join;
+use word::signed::low;
+use word::signed::of_bits;
 
 // The most bytes of a file.
 const MAX_FILE: usize = 65536;
 
-// Where a trailer's words stand: back, M, K, N, the registers, qifv, qifw, and those that a kind has more.
+// Where a trailer's words stand: back, M, K, N, the registers, qifv, qifw, and those that a kind has more:
+// the position, low word first.
 const BACK: usize = 0;
 
 const M: usize = 1;
@@ -39,6 +46,8 @@ const QIFV: usize = REGS + 16;
 const QIFW: usize = QIFV + 1;
 
 const MORE: usize = QIFW + 1;
+
+const POSITION: usize = MORE;
 
 // ---- lengths
 
@@ -86,6 +95,7 @@ fn read_record(t: &[u8]) -> Record
         k: read_word(t, K),
         m: read_word(t, M),
         n: read_word(t, N),
+        position: of_bits(join(read_word(t, POSITION), read_word(t, POSITION + 1))),
     }
 }
 
@@ -116,15 +126,25 @@ pub(crate) fn file_refusal(file: &[u8], rest: u32) -> u32
     let r = read_record(t);
     let back = back_of(kind, r);
     let stored = read_word(t, BACK) as usize;
-    let fits = word::both(length_of(kind) <= file.len(), file.len() <= MAX_FILE);
     let from_5 = word::choose(file.len() < back, 5, rest);
     let from_4 = word::choose(!(stored == back), 4, from_5);
     let from_3 = word::choose(!is_in_range(r.status()), 3, from_4);
-    let from_2 = word::choose(!has_last(file, kind), 2, from_3);
+    let whole = word::choose(file.len() < length_of(kind), 1, from_3);
+    let from_2 = word::choose(!has_last(file, kind), 2, whole);
+    let fits = word::both(length_of(OLDEST) <= file.len(), file.len() <= MAX_FILE);
     word::choose(!fits, 1, from_2)
 }
 
 // ---- writing
+
+// Writes the words behind the registers at the front of out.
+fn write_tail(r: Record, out: &mut [u8])
+    requires { ⌜ 4 * length (tailWords newest r) ≤ length (now out) ⌝ }
+    ensures { λ _. ⌜ now (out .exit) ≡ bytesOf (tailWords newest r) ++ drop (4 * length (tailWords newest r)) (now (out .entry)) ⌝ }
+{
+    let bits = bits_of(r.position);
+    write_words(&[r.qifv, r.qifw, low(bits), high(bits)], out);
+}
 
 // Writes the trailer's words at the front of out: each part into what is left of out behind the last.
 fn write_fields(r: Record, out: &mut [u8])
@@ -134,7 +154,7 @@ fn write_fields(r: Record, out: &mut [u8])
     let regs = r.regs;
     write_words(&[back_of(NEWEST, r) as u32, r.m, r.k, r.n], out);
     write_words(&regs, &mut out[4 * REGS..]);
-    write_words(&[r.qifv, r.qifw], &mut out[4 * QIFV..]);
+    write_tail(r, &mut out[4 * QIFV..]);
 }
 
 // And the last bytes behind them.

@@ -1,3 +1,4 @@
 pub mod Reversible
 pub mod Samples
 pub mod Lists
+pub mod Counts

@@ -15,6 +15,7 @@ use Rattle.step.specs.Table.{tableWords}
 use Rattle.step.specs.View.{View, byWay}
 use Rattle.step.specs.Step.{number}
 use Rattle.machine.specs.Turn.{planned, turned}
+use Rattle.machine.specs.Position.{isLast, positionAfter}
 use Rattle.machine.specs.Calls.{Machine, Bounded, machineOf, statusOf, updated, viewOf, planOf, viewAfter, TurnPromise, accepted, refusal, next}
 use Rattle.machine.specs.Batch.{after, BatchPromise}
 use Rattle.machine.specs.declared.Record.{Record}
@@ -31,13 +32,13 @@ use Rattle.lists.proofs.Reversible as R
 use Rattle.lists.proofs.Samples.{call-turns, by-turns}
 
 module _ (table : List ℕ) where
-  abbrev Accepts : Direction → Machine → Type 0
+  abbrev pub Accepts : Direction → Machine → Type 0
   Accepts d x = refusal table d x ≡ 0
 
   abbrev Runs : Direction → ℕ → Machine → Machine → Type 0
   Runs = R.Runs Machine Accepts (next table) Bounded
 
-  abbrev Tour : ℕ → ℕ → Machine → Machine → Type 0
+  abbrev pub Tour : ℕ → ℕ → Machine → Machine → Type 0
   Tour = R.Tour Machine Accepts (next table) Bounded
 
   -- ---- each call is a run of its accepted turns
@@ -78,7 +79,7 @@ module _ (table : List ℕ) where
       by-turns table (λ f b z. Tour f b x z) (λ d f b z a mem u h. turn-on u h) t (call-turns table given l (y .state) (y .memory) p)
   go-on {x = x} {f = f} {b = b} t (reads y h) = subst₂ (λ (i j : ℕ). Tour i j x y) (omega arith) (omega arith) t
 
-  tour : {x y : Machine} {f b : ℕ} → Left table x f b y → Tour f b x y
+  pub tour : {x y : Machine} {f b : ℕ} → Left table x f b y → Tour f b x y
   tour empty = R.Tour.empty
   tour (then l c) = go-on (tour l) c
 
@@ -96,7 +97,7 @@ module _ (table other : List ℕ) (d : Direction) where
     same-nodes = ap (λ (r : Record). take (tableWords (r .n)) other) (a .state) ∙ t
 
     same-plan : planOf d (y .state) (y .memory) other ≡ planOf d (x .state) (x .memory) table
-    same-plan = ap₂ (λ (l : List ℕ) (s : View). planned l d s) same-nodes same-view
+    same-plan = λ j. planned (same-nodes j) d (isLast d (a .state j .position)) (same-view j)
 
     same-after : viewAfter d (y .state) (y .memory) other ≡ viewAfter d (x .state) (x .memory) table
     same-after = ap₂ (turned d) same-plan same-view
@@ -107,7 +108,7 @@ module _ (table other : List ℕ) (d : Direction) where
     alike-next : Alike (next table d x) (next other d y)
     alike-next =
         record {
-          state = ap₂ (λ (r : Record) (s : View). updated r (s .at) (s .regs)) (a .state) same-after;
+          state = λ j. updated (a .state j) (positionAfter d (same-plan j) (a .state j .position)) (same-after j .at) (same-after j .regs);
           memory =
               subst (λ (m : ℕ). take m (next other d y .memory) ≡ viewAfter d (y .state) (y .memory) other .memory) same-m (next-view other d y)
               ∙ (ap (λ (s : View). s .memory) same-after ∙ sym (next-view table d x));

@@ -2,6 +2,7 @@
 use Prim.Native.Nat.{ℕ, suc, _+_, _-_, _≤_}
 use mathlib.Core.Path.{_≡_}
 use mathlib.Core.List.{List}
+use lib.IntN.{pos, _+ℤ_, _-ℤ_}
 use lib.ListN.{take, drop}
 use Rattle.step.specs.declared.Direction.{Direction}
 use Rattle.step.specs.declared.Direction.the-variants.{Forward, Back}
@@ -55,6 +56,13 @@ abbrev pub SlippedIn : Type 0
 SlippedIn =
     (table : List ℕ) (x y : Machine) (f b g c : ℕ) (l : Left table x f b y) (r : Left table x g c y) → Slipped table x y f b g c l r
     → (f ≡ g) × (b ≡ c)
+
+-- ---- the position (document 02, #104)
+
+-- After a list of calls it is the one at the beginning plus the accepted turns forward less those back.
+abbrev pub PositionCounts : Type 0
+PositionCounts =
+    (table : List ℕ) (x y : Machine) (f b : ℕ) → Left table x f b y → y .state .position ≡ x .state .position +ℤ pos f -ℤ pos b
 
 -- ---- Right: single turns straight
 

@@ -10,8 +10,7 @@ use lib.Dec.{eqb, ltb}
 use borrow.Author.Tests.{lt-ltb, le-ltb, eqb-true, eqb-false, ne-eqb}
 use Rattle.word.specs.Word.{pick}
 use Rattle.step.specs.declared.Direction.{Direction}
-use Rattle.step.specs.View.{Bounds}
-use Rattle.machine.specs.Calls.{Machine, machineOf, viewOf, refusal, next}
+use Rattle.machine.specs.Calls.{Machine, machineOf, Bounded, refusal, next}
 use Rattle.machine.specs.Batch.{after, turnsMade, BatchPromise, Complete, BatchesComplete, InTwo, Longer}
 use Rattle.machine.specs.declared.Record.{Record}
 use Rattle.machine.specs.declared.Turned.{Turned}
@@ -119,7 +118,7 @@ module _ (table : List ℕ) (d : Direction) where
 -- ---- and as calls promise it
 
 module _ {d : Direction} {n : ℕ} {r : Record} {mem table : List ℕ} where
-  pub promises : (k w : ℕ) (r′ : Record) (mem′ : List ℕ) → Bounds (viewOf r mem) → Ends table d n (machineOf r mem) k w (machineOf r′ mem′)
+  pub promises : (k w : ℕ) (r′ : Record) (mem′ : List ℕ) → Bounded (machineOf r mem) → Ends table d n (machineOf r mem) k w (machineOf r′ mem′)
       → BatchPromise d n r mem table (record { turns = k; refusal = w; state = r′ }) mem′
   promises k w r′ mem′ g e =
       let x = machineOf r mem in

@@ -1,9 +1,12 @@
 -- The claims on single turns. Assumes nothing.
-use mathlib.Core.Path.{_≡_, refl, sym, ap, ap₂, _∙_, subst}
+use mathlib.Core.Path.{_≡_, refl, sym, ap, ap₂, _∙_, subst, subst⁻¹}
 use mathlib.Core.Logic.{_≢_}
 use mathlib.Core.List.{List, _++_}
 use Prim.Native.Nat.{ℕ}
+use lib.IntN.{ℤ}
 use lib.ListN.{length, take, drop, take-append-drop}
+use mir.Syntax.{w64}
+use mir.Val.{SFits}
 use Rattle.step.specs.declared.Status.{Status}
 use Rattle.step.specs.declared.Direction.{Direction}
 use Rattle.step.specs.declared.Direction.the-variants.{Forward, Back}
@@ -14,19 +17,21 @@ use Rattle.step.proofs.Views.{seam-take, seam-drop, seam-long}
 use Rattle.step.proofs.Sized.{SameSizes, marked-sizes}
 use Rattle.step.specs.Step.{number}
 use Rattle.machine.specs.Turn.{planned, turned}
+use Rattle.machine.specs.Position.{isLast, advanced, positionAfter}
 use Rattle.machine.specs.Calls.{Machine, Bounded, machineOf, statusOf, updated, viewOf, planOf, viewAfter, TurnPromise, refusal, next, Leads}
 use Rattle.machine.specs.Claims.{Harmless, Inverse, Origin, OneOrigin, OnCalls}
 use Rattle.machine.specs.declared.Record.{Record}
 use Rattle.machine.proofs.Moves.{turned-long}
-use Rattle.machine.proofs.Inverse.{Reversed, turn-back}
+use Rattle.machine.proofs.Room.{Step, step, home}
+use Rattle.machine.proofs.Inverse.{Reversed, going, turn-back}
 use Rattle.machine.specs.declared.Turned.{Turned}
-use Rattle.machine.proofs.Sure.{Made, made, unmade}
+use Rattle.machine.proofs.Sure.{Made, made, unmade, uncounted}
 
 -- ---- the sizes stay
 
 -- so what was left in a record is what the next turn sees
-pub same-status : (r : Record) (at : Status) (regs : List ℕ) → SameSizes (statusOf r) at → statusOf (updated r at regs) ≡ at
-same-status r at regs z =
+pub same-status : (r : Record) (p : ℤ) (at : Status) (regs : List ℕ) → SameSizes (statusOf r) at → statusOf (updated r p at regs) ≡ at
+same-status r p at regs z =
     let k = sym (z .k) in
     let m = sym (z .m) in
     let n = sym (z .n) in
@@ -41,6 +46,9 @@ turned-sizes d (Does e) s = marked-sizes e (s .at)
 module _ (table : List ℕ) (d : Direction) (x : Machine) where
   abbrev s : View
   s = viewOf (x .state) (x .memory)
+
+  abbrev p : ℤ
+  p = x .state .position
 
   abbrev plan : Attempt
   plan = planOf d (x .state) (x .memory) table
@@ -66,38 +74,50 @@ module _ (table : List ℕ) (d : Direction) (x : Machine) where
   -- the state that the next call sees
   pub next-seen : viewOf (next table d x .state) (next table d x .memory) ≡ s′
   next-seen =
-      let a = same-status (x .state) (s′ .at) (s′ .regs) next-sizes in
+      let a = same-status (x .state) (positionAfter d plan p) (s′ .at) (s′ .regs) next-sizes in
       λ j. record { at = a j; regs = s′ .regs; memory = next-view j }
 
   pub refused-keeps : refusal table d x ≢ 0 → next table d x ≡ x
   refused-keeps h =
       let e : s′ ≡ s = unmade d plan s h in
-      rw e (ap (λ (l : List ℕ). record { state = x .state; memory = l }) (take-append-drop (x .state .m) (x .memory)))
+      rw (uncounted d plan p h, e) (ap (λ (l : List ℕ). record { state = x .state; memory = l }) (take-append-drop (x .state .m) (x .memory)))
+
+  module _ (h : refusal table d x ≡ 0) where
+    effect : Made plan
+    effect = made (nodes (s .at) table) d (isLast d p) s h
+
+    pub next-position : next table d x .state .position ≡ advanced d 1 p
+    next-position = ap (λ (a : Attempt). positionAfter d a p) (effect .is)
 
   module _ (g : Bounded x) (h : refusal table d x ≡ 0) where
-    effect : Made plan
-    effect = made (nodes (s .at) table) d s h
+    is-next : turned d (Does (effect h .effect)) s ≡ s′
+    is-next = ap (λ (a : Attempt). turned d a s) (sym (effect h .is))
 
-    is-next : turned d (Does (effect .effect)) s ≡ s′
-    is-next = ap (λ (a : Attempt). turned d a s) (sym (effect .is))
+    further : Step d p (advanced d 1 p)
+    further = step d p (g .position) (going (nodes (s .at) table) d (isLast d p) s (effect h .is))
 
     reversed : Reversed (nodes (s .at) table) d s s′
-    reversed = subst (Reversed (nodes (s .at) table) d s) is-next (turn-back (nodes (s .at) table) d s g (effect .is))
+    reversed = subst (Reversed (nodes (s .at) table) d s) is-next (turn-back (nodes (s .at) table) d (isLast d p) s (g .view) (effect h .is))
 
     plan-back : planOf (flip d) (next table d x .state) (next table d x .memory) table ≡ Does (reversed .by)
-    plan-back = ap (planned (nodes (s .at) table) (flip d)) next-seen ∙ reversed .plan
+    plan-back =
+        ap₂ (planned (nodes (s .at) table) (flip d)) (ap (isLast (flip d)) (next-position h) ∙ further .back) next-seen
+        ∙ reversed .plan
 
     view-back : viewAfter (flip d) (next table d x .state) (next table d x .memory) table ≡ s
     view-back = ap₂ (turned (flip d)) plan-back next-seen ∙ reversed .home
+
+    position-back : next table (flip d) (next table d x) .state .position ≡ p
+    position-back = ap₂ (positionAfter (flip d)) plan-back (next-position h) ∙ home d p
 
     pub turn-home : (refusal table (flip d) (next table d x) ≡ 0) × (next table (flip d) (next table d x) ≡ x) × Bounded (next table d x)
     turn-home = (
       ap number plan-back,
       λ j. record {
-        state = updated (x .state) (view-back j .at) (view-back j .regs);
+        state = updated (x .state) (position-back j) (view-back j .at) (view-back j .regs);
         memory = (ap₂ (λ (l r : List ℕ). l ++ r) (ap (λ (u : View). u .memory) view-back) next-excess ∙ take-append-drop (x .state .m) (x .memory)) j;
       },
-      subst Bounds (sym next-seen) (reversed .bounds),
+      record { view = subst Bounds (sym next-seen) (reversed .bounds); position = subst⁻¹ (SFits w64) (next-position h) (further .fits) },
     )
 
 -- ---- the claims

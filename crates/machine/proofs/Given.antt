@@ -4,10 +4,10 @@ use mathlib.Core.Path.{_≡_}
 use mathlib.Core.List.{List, [], _∷_}
 use lib.ListN.{length, getD, take}
 use lib.Dec.{lit<}
-use mir.Syntax.{w32}
-use mir.Val.{Fits}
-use Rattle.step.specs.View.{Words, Bounds}
-use Rattle.machine.specs.Calls.{viewOf}
+use mir.Syntax.{w32, w64}
+use mir.Val.{Fits, SFits}
+use Rattle.step.specs.View.{Words}
+use Rattle.machine.specs.Calls.{Bounded, machineOf}
 use Rattle.machine.specs.declared.Record.{Record}
 
 pub words-take : (m : ℕ) (l : List ℕ) → Words l → Words (take m l)
@@ -17,5 +17,6 @@ words-take (suc m) (x ∷ l) h zero = h 0
 words-take (suc m) (x ∷ l) h (suc a) = words-take m l (λ b. h (suc b)) a
 
 pub given-bounds : (r : Record) (mem : List ℕ) → length (r .regs) ≡ 16 → ((a : ℕ) → Fits w32 (getD (r .regs) a 0)) → ((a : ℕ) → Fits w32 (getD mem a 0))
-    → Bounds (viewOf r mem)
-given-bounds r mem n f g = record { sixteen = n; regs = λ a. f a .fits; words = words-take (r .m) mem (λ a. g a .fits) }
+    → SFits w64 (r .position) → Bounded (machineOf r mem)
+given-bounds r mem n f g p =
+    record { view = record { sixteen = n; regs = λ a. f a .fits; words = words-take (r .m) mem (λ a. g a .fits) }; position = p }

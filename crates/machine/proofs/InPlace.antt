@@ -25,6 +25,10 @@ use Rattle.machine.proofs.Sure.{landed-attempt, judged-attempt}
 
 -- ---- pc after the effect, and 18
 
+pub not-refused : (n : ℕ) (x : Attempt) → refuse false n x ≡ x
+unfolding refuse
+not-refused n x = refl
+
 pub no-pc : {d : Direction} {s : View} {a : Attempt} {n new : ℕ} → a ≡ Refused n → PcAfter d s a new
 no-pc h = record { done = λ e k. absurd (refused-no (sym h ∙ k)) }
 
@@ -54,14 +58,14 @@ lands-done at regs mem {e = e} {bad = bad} h t q l j f =
 pub plans : {d : Direction} {at : Status} {regs mem table : List ℕ} {old br pc new : ℕ} {regs′ : List ℕ} {x b : Attempt}
     → old ≡ getD regs 0 0 → br ≡ getD regs 1 0 → pc ≡ fromPc d (at .qifw) old br → regs′ ≡ set regs 0 pc
     → x ≡ executed (nodes at table) d (seen at regs′ mem) → PcAfter d (seen at regs′ mem) x new
-    → (PcAfter d (seen at regs′ mem) x new → b ≡ judged (nodes at table) d old (seen at regs′ mem) (landed d (seen at regs′ mem) x))
+    → (PcAfter d (seen at regs′ mem) x new → b ≡ judged (nodes at table) d false old (seen at regs′ mem) (landed d (seen at regs′ mem) x))
     → Plans d at regs mem table b new regs′
 plans {d = d} {at = at} {regs = regs} {mem = mem} {table = table} {regs′ = regs′} {x = x} p q r f e l j =
     let found : regs′ ≡ from d (seen at regs mem) .regs = f ∙ rw (r, p, q) in
     let s = seen at regs′ mem in
     record {
       attempt = j l ∙ rw (e, found, p);
-      pc = record { done = λ z h. rw found at (l .done z (landed-attempt d s x (judged-attempt (nodes at table) d _ s (landed d s x) (sym (j l) ∙ h)))) };
+      pc = record { done = λ z h. rw found at (l .done z (landed-attempt d s x (judged-attempt (nodes at table) d false _ s (landed d s x) (sym (j l) ∙ h)))) };
       found = found;
     }
 
@@ -117,9 +121,9 @@ module _ (live : Bool) (mem shown : List ℕ) {d : Direction} {at : Status} {reg
 
 module _ {d : Direction} {at : Status} {regs table : List ℕ} {w : ℕ} {at′ : Status} {k : Store} {regs′ mem′ : List ℕ} where
   pub steps-regs : {live : Bool} {mem read : List ℕ} → Steps live d at regs mem read table w at′ k regs′ mem′ → length regs′ ≡ length regs
-  steps-regs {read = read} f = ap length (f .registers) ∙ turned-regs d (planAt d at regs read table) (seen at regs read)
+  steps-regs {read = read} f = ap length (f .registers) ∙ turned-regs d (planAt d false at regs read table) (seen at regs read)
 
   pub steps-long : (live : Bool) (mem shown : List ℕ) → Steps live d at regs mem (pick live mem shown) table w at′ k regs′ mem′ → length mem′ ≡ length mem
   steps-long true mem shown f =
-      ap length (f .memory) ∙ seam-long mem (turnedAt d at regs mem table .memory) (at .m) (turned-long d (planAt d at regs mem table) (seen at regs mem))
+      ap length (f .memory) ∙ seam-long mem (turnedAt d false at regs mem table .memory) (at .m) (turned-long d (planAt d false at regs mem table) (seen at regs mem))
   steps-long false mem shown f = ap length (f .memory)

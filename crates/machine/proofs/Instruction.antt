@@ -4,6 +4,7 @@ use mathlib.Core.Bool.{Bool, true, false}
 use mathlib.Core.List.{List, [], _∷_}
 use Prim.Native.Nat.{ℕ}
 use lib.Dec.{eqb}
+use lib.IntN.{pos}
 use borrow.Author.Tests.{eqb-true}
 use Rattle.qins.specs.Decode.{decode, operation, line, finishWord, kind}
 use Rattle.step.specs.declared.Direction.the-variants.{Forward}
@@ -35,7 +36,7 @@ finish-is-one w h = ap (λ (v : ℕ). eqb (kind (decode v)) 0) (sym (eqb-true w 
 
 -- code and memory are the one word
 abbrev oneWord : Record
-oneWord = record { regs = zeros .regs; qifv = 0; qifw = 0; k = 1; m = 1; n = 0 }
+oneWord = record { regs = zeros .regs; qifv = 0; qifw = 0; k = 1; m = 1; n = 0; position = pos 0 }
 
 pub told-by-13 : (w : ℕ) → eqb (turnOf Forward oneWord (w ∷ []) [] .refusal) 13 ≡ eqb (kind (decode w)) 0
 unfolding judged badSizes inRange refuse

@@ -170,26 +170,32 @@ no-finish t d s {e} h k = go (finishes (s .memory) (pc s)) refl
         let c = not-not (isReady (s .at)) (passed (not (isReady (s .at))) 14 _ q .0) in
         absurd (true≢false (rw (c, z) at k))
 
-accepted : (t : List ℕ) (d : Direction) (s : View) {e : Effect} → Bounds s → planned t d s ≡ Does e → Accepted t d s e
+accepted : (t : List ℕ) (d : Direction) (last : Bool) (s : View) {e : Effect} → Bounds s → planned t d last s ≡ Does e → Accepted t d s e
 unfolding judged landed
-accepted t Forward s g h =
+accepted t Forward last s g h =
     let p = passed (badSizes (s .at) (s .memory) t) 10 _ h in
-    let q = passed (not (isCode (s .at) (pc (from Forward s)))) 11 _ (p .1) in
+    let q = passed (not (isCode (s .at) (pc (from Forward s)))) 11 _ (passed last 21 _ (p .1) .1) in
     let r = passed (finishes (s .memory) (pc (from Forward s))) 12 _ (q .1) in
     let l = landed-does (from Forward s) _ (bounds-from s g Forward) (r .1) in
     record { sizes = p .0; free = l .0; code = q .0; running = r .0; does = l .1 }
-accepted t Back s g h =
+accepted t Back last s g h =
     let p = passed (badSizes (s .at) (s .memory) t) 10 _ h in
-    let f = passed (starting s (s .memory)) 12 _ (p .1) in
+    let f = passed (starting s (s .memory)) 12 _ (passed last 21 _ (p .1) .1) in
     let q = passed (not (isCode (s .at) (pc (from Back s)))) 11 _ (f .1) in
     let r = passed (isReady (s .at) && finishes (s .memory) (pc (from Back s))) 18 _ (q .1) in
     record { sizes = p .0; free = f .0; code = q .0; running = no-finish t Back (from Back s) (r .1) (r .0); does = r .1 }
+
+-- and it is not at the last position
+pub going : (t : List ℕ) (d : Direction) (last : Bool) (s : View) {e : Effect} → planned t d last s ≡ Does e → last ≡ false
+unfolding judged
+going t Forward last s h = passed last 21 _ (passed _ 10 _ h .1) .0
+going t Back last s h = passed last 21 _ (passed _ 10 _ h .1) .0
 
 and-false : (b : Bool) → b && false ≡ false
 and-false true = refl
 and-false false = refl
 
-accepts : (t : List ℕ) (d : Direction) (s : View) {e : Effect} → Bounds s → Accepted t d s e → planned t d s ≡ Does e
+accepts : (t : List ℕ) (d : Direction) (s : View) {e : Effect} → Bounds s → Accepted t d s e → planned t d false s ≡ Does e
 unfolding judged landed refuse
 accepts t Forward s {e} g a = rw (a .sizes, a .code, a .running, a .does, landing-is e (from Forward s) (bounds-from s g Forward), a .free)
 accepts t Back s g a = rw (a .sizes, a .free, a .code, a .running, and-false (isReady (s .at)), a .does)
@@ -270,7 +276,7 @@ module _ (t : List ℕ) (d : Direction) (s : View) (g : Bounds s) (e : Effect) (
             (ap (λ (w : ℕ). attempt t (flip d) (decode w) after) same-word ∙ back .does);
       }
 
-  turned-back : (planned t (flip d) (to d after) ≡ Does (back .by)) × (turned (flip d) (Does (back .by)) (to d after) ≡ s) × Bounds (to d after)
+  turned-back : (planned t (flip d) false (to d after) ≡ Does (back .by)) × (turned (flip d) (Does (back .by)) (to d after) ≡ s) × Bounds (to d after)
   turned-back = (
     accepts t (flip d) (to d after) (bounds-to after (keeps .bounds) d) accepted-back,
     ap (λ (x : View). to (flip d) (performed (back .by) x)) home ∙ (ap (to (flip d)) (back .home) ∙ whole),
@@ -280,16 +286,16 @@ module _ (t : List ℕ) (d : Direction) (s : View) (g : Bounds s) (e : Effect) (
 -- what the turn the other way does, after one that did e
 pub record Reversed (t : List ℕ) (d : Direction) (s s′ : View) : Type 0 where
   pub by : Effect
-  pub plan : planned t (flip d) s′ ≡ Does by
+  pub plan : planned t (flip d) false s′ ≡ Does by
   pub home : turned (flip d) (Does by) s′ ≡ s
   pub bounds : Bounds s′
 
-pub turn-back : (t : List ℕ) (d : Direction) (s : View) {e : Effect} → Bounds s → planned t d s ≡ Does e → Reversed t d s (turned d (Does e) s)
-turn-back t d s {e} g h =
-    let a = accepted t d s g h in
+pub turn-back : (t : List ℕ) (d : Direction) (last : Bool) (s : View) {e : Effect} → Bounds s → planned t d last s ≡ Does e → Reversed t d s (turned d (Does e) s)
+turn-back t d last s {e} g h =
+    let a = accepted t d last s g h in
     let r = turned-back t d s g e a in
     record { by = back t d s g e a .by; plan = r .0; home = r .1; bounds = r .2 }
 
 -- and what it does to the memory is within the data that is there
-pub plan-fair : (t : List ℕ) (d : Direction) (s : View) {e : Effect} → Bounds s → planned t d s ≡ Does e → Fair e (s .at) × (s .at .m ≤ length (s .memory))
-plan-fair t d s {e} g h = let a = accepted t d s g h in (back t d s g e a .fair, room-of t (s .at) (s .memory) (a .sizes))
+pub plan-fair : (t : List ℕ) (d : Direction) (last : Bool) (s : View) {e : Effect} → Bounds s → planned t d last s ≡ Does e → Fair e (s .at) × (s .at .m ≤ length (s .memory))
+plan-fair t d last s {e} g h = let a = accepted t d last s g h in (back t d s g e a .fair, room-of t (s .at) (s .memory) (a .sizes))

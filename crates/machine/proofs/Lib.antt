@@ -1,9 +1,11 @@
 pub mod Moves
 pub mod Sure
+pub mod Room
 pub mod InPlace
 pub mod Inverse
 pub mod Claims
 pub mod Given
+pub mod Whole
 pub mod Batches
 pub mod Runs
 pub mod Marks

@@ -22,6 +22,7 @@ use Rattle.step.specs.Step.{storeOf, storeIn, number}
 use Rattle.step.proofs.Views.{view-in, store-in}
 use Rattle.step.proofs.Undo.{Fair}
 use Rattle.machine.specs.Turn.{from, turned}
+use Rattle.machine.specs.Position.{isLast}
 use Rattle.machine.specs.Calls.{statusOf, viewOf, planOf, turnOf, memoryOf}
 use Rattle.machine.specs.Preview.{plannedStore, storeBy, changes, reported, previewOf, ShowsTurn, Previews, refusedBy, ShowsRefusal}
 use Rattle.machine.specs.InPlace.{firstOf}
@@ -67,7 +68,7 @@ turn-leaves d r mem table g = go (planOf d r mem table) refl
     go : (x : Attempt) → planOf d r mem table ≡ x
         → Leaves r mem (plannedStore x (from d (viewOf r mem))) (turned d x (viewOf r mem) .memory ++ drop (r .m) mem)
     go (Refused n) e = leaves-none r mem _ refl
-    go (Does f) e = let p = plan-fair (nodes (statusOf r) table) d (viewOf r mem) g e in leaves d r mem f (p .0) (p .1)
+    go (Does f) e = let p = plan-fair (nodes (statusOf r) table) d (isLast d (r .position)) (viewOf r mem) g e in leaves d r mem f (p .0) (p .1)
 
 -- ---- and so what is reported of it
 
@@ -113,7 +114,7 @@ pub previews : Previews
 previews d r mem table p a mem′ h q =
     let s = storeBy d r mem table in
     subst₃ (λ (x : Preview) (y : Turned) (z : List ℕ). ShowsTurn r mem x y z) (sym (h .answer)) (sym (q .answer)) (sym (q .memory))
-    (shows r mem s (turnOf d r mem table) (memoryOf d r mem table) (turn-leaves d r mem table (h .bounds))
+    (shows r mem s (turnOf d r mem table) (memoryOf d r mem table) (turn-leaves d r mem table (h .bounds .view))
     (changes s (getD (take (r .m) mem) (s .address) 0)) refl)
 
 -- ---- a refused turn

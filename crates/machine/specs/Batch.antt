@@ -7,8 +7,7 @@ use mathlib.Core.List.{List}
 use lib.Dec.{eqb, ltb}
 use Rattle.word.specs.Word.{pick}
 use Rattle.step.specs.declared.Direction.{Direction}
-use Rattle.step.specs.View.{Bounds}
-use Rattle.machine.specs.Calls.{Machine, machineOf, viewOf, TurnPromise, refusal, next}
+use Rattle.machine.specs.Calls.{Machine, machineOf, Bounded, TurnPromise, refusal, next}
 use Rattle.machine.specs.declared.Record.{Record}
 use Rattle.machine.specs.declared.Turned.{Turned}
 use Rattle.machine.specs.declared.Batch.{Batch}
@@ -40,7 +39,7 @@ batchMemory d n r mem table = let x = machineOf r mem in after table d (turnsMad
 pub record BatchPromise (d : Direction) (n : ℕ) (r : Record) (mem table : List ℕ) (a : Batch) (mem′ : List ℕ) : Type 0 where
   pub answer : a ≡ batchOf d n r mem table
   pub memory : mem′ ≡ batchMemory d n r mem table
-  pub bounds : Bounds (viewOf r mem)
+  pub bounds : Bounded (machineOf r mem)
 
 -- ---- what is claimed of calls. Proved in proofs/Batches.
 

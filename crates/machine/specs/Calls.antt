@@ -4,7 +4,10 @@ use mathlib.Core.Path.{_≡_}
 use mathlib.Core.Bool.{Bool}
 use mathlib.Core.List.{List, [], _∷_, _++_}
 use lib.Dec.{eqb}
+use lib.IntN.{ℤ, pos}
 use lib.ListN.{take, drop}
+use mir.Syntax.{w64}
+use mir.Val.{SFits}
 use Rattle.word.specs.Word.{pick}
 use Rattle.step.specs.declared.Status.{Status}
 use Rattle.step.specs.declared.Direction.{Direction}
@@ -13,6 +16,7 @@ use Rattle.step.specs.View.{View, Bounds, seen, nodes}
 use Rattle.step.specs.Sizes.{badSizes}
 use Rattle.step.specs.Step.{number}
 use Rattle.machine.specs.Turn.{planAt, turnedAt}
+use Rattle.machine.specs.Position.{isLast, positionAfter}
 use Rattle.machine.specs.declared.Record.{Record}
 use Rattle.machine.specs.declared.Turned.{Turned}
 
@@ -24,9 +28,9 @@ statusOf r = record { qifv = r .qifv; qifw = r .qifw; k = r .k; m = r .m; n = r 
 abbrev pub viewOf : Record → List ℕ → View
 viewOf r mem = seen (statusOf r) (r .regs) mem
 
--- r with the registers, the node and the wait count that turns left
-abbrev pub updated : Record → Status → List ℕ → Record
-updated r at regs = record { regs = regs; qifv = at .qifv; qifw = at .qifw; k = r .k; m = r .m; n = r .n }
+-- r with the position, the registers, the node and the wait count that turns left
+abbrev pub updated : Record → ℤ → Status → List ℕ → Record
+updated r p at regs = record { regs = regs; qifv = at .qifv; qifw = at .qifw; k = r .k; m = r .m; n = r .n; position = p }
 
 abbrev pub zeros : Record
 zeros =
@@ -37,6 +41,7 @@ zeros =
       k = 0;
       m = 0;
       n = 0;
+      position = pos 0;
     }
 
 -- refusal 10
@@ -46,29 +51,23 @@ wrongSizes r mem table = badSizes (statusOf r) (take (r .m) mem) (nodes (statusO
 -- ---- a turn of it
 
 abbrev pub planOf : Direction → Record → List ℕ → List ℕ → Attempt
-planOf d r mem table = planAt d (statusOf r) (r .regs) mem table
+planOf d r mem table = planAt d (isLast d (r .position)) (statusOf r) (r .regs) mem table
 
 abbrev pub viewAfter : Direction → Record → List ℕ → List ℕ → View
-viewAfter d r mem table = turnedAt d (statusOf r) (r .regs) mem table
+viewAfter d r mem table = turnedAt d (isLast d (r .position)) (statusOf r) (r .regs) mem table
 
 -- the answer
 abbrev pub turnOf : Direction → Record → List ℕ → List ℕ → Turned
 turnOf d r mem table =
+    let s = viewAfter d r mem table in
     record {
       refusal = number (planOf d r mem table);
-      state = updated r (viewAfter d r mem table .at) (viewAfter d r mem table .regs);
+      state = updated r (positionAfter d (planOf d r mem table) (r .position)) (s .at) (s .regs);
     }
 
 -- the lent memory at exit: its first M words as the turn leaves them, and the excess as it was
 abbrev pub memoryOf : Direction → Record → List ℕ → List ℕ → List ℕ
 memoryOf d r mem table = viewAfter d r mem table .memory ++ drop (r .m) mem
-
--- What a turn from r, mem and table promises of its answer a and of the lent memory at exit; and, of its
--- arguments, the bounds that the claims on turns ask for.
-pub record TurnPromise (d : Direction) (r : Record) (mem table : List ℕ) (a : Turned) (mem′ : List ℕ) : Type 0 where
-  pub answer : a ≡ turnOf d r mem table
-  pub memory : mem′ ≡ memoryOf d r mem table
-  pub bounds : Bounds (viewOf r mem)
 
 -- ---- a machine: a record and the whole lent memory, as the calls hand them on
 
@@ -79,8 +78,20 @@ pub record Machine : Type 0 where
 abbrev pub machineOf : Record → List ℕ → Machine
 machineOf r mem = record { state = r; memory = mem }
 
-abbrev pub Bounded : Machine → Type 0
-Bounded x = Bounds (viewOf (x .state) (x .memory))
+-- The bounds that the claims on turns ask for and the types give: those of what a turn sees, and a position of 64 bits.
+-- Each call proves them of its own arguments.
+pub record Bounded (x : Machine) : Type 0 where
+  pub view : Bounds (viewOf (x .state) (x .memory))
+  pub position : SFits w64 (x .state .position)
+
+-- ---- what a turn from r, mem and table promises of its answer a and of the lent memory at exit; and of its arguments
+
+pub record TurnPromise (d : Direction) (r : Record) (mem table : List ℕ) (a : Turned) (mem′ : List ℕ) : Type 0 where
+  pub answer : a ≡ turnOf d r mem table
+  pub memory : mem′ ≡ memoryOf d r mem table
+  pub bounds : Bounded (machineOf r mem)
+
+-- ---- turns of machines
 
 -- a turn counts 1 where its refusal is 0
 abbrev pub accepted : ℕ → ℕ

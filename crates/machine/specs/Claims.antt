@@ -3,12 +3,15 @@
 use Prim.Native.Nat.{ℕ}
 use mathlib.Core.Path.{_≡_}
 use mathlib.Core.Logic.{_≢_}
+use mathlib.Core.Bool.{true}
 use mathlib.Core.List.{List}
 use lib.ListN.{drop}
+use Rattle.word.specs.Word.{pick}
 use Rattle.step.specs.declared.Direction.{Direction}
 use Rattle.step.specs.declared.Direction.the-variants.{Forward, Back}
 use Rattle.step.specs.View.{flip}
-use Rattle.machine.specs.Calls.{Machine, machineOf, Bounded, TurnPromise, refusal, next, Leads}
+use Rattle.machine.specs.Calls.{Machine, machineOf, Bounded, TurnPromise, wrongSizes, refusal, next, Leads}
+use Rattle.machine.specs.Position.{isLast}
 use Rattle.machine.specs.declared.Record.{Record}
 use Rattle.machine.specs.declared.Turned.{Turned}
 
@@ -46,3 +49,10 @@ pub record OnCalls : Type 0 where
   pub accepted : (d : Direction) (r : Record) (mem table : List ℕ) (a : Turned) (mem′ : List ℕ)
       → TurnPromise d r mem table a mem′ → (e : Origin table (flip d) (machineOf r mem))
       → (a .refusal ≡ 0) × (machineOf (a .state) mem′ ≡ e .machine)
+
+-- Document 02, #104, of calls: at the last position a turn this way is refused by 21, but for 10, whatever stands at pc. Proved in
+-- proofs/Whole.
+abbrev pub LastRefused : Type 0
+LastRefused =
+    (d : Direction) (r : Record) (mem table : List ℕ) (a : Turned) (mem′ : List ℕ) → TurnPromise d r mem table a mem′ → isLast d (r .position) ≡ true
+    → a .refusal ≡ pick (wrongSizes r mem table) 10 21

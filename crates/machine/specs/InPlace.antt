@@ -1,18 +1,21 @@
 -- What the parts of a turn in place promise (src/cycle.rt), and a run of turns (src/lib.rt): of a status, and of registers,
--- memory and table that are lent.
-use Prim.Native.Nat.{ℕ, _<_}
+-- memory and table that are lent. A turn in place is one before the last position: the run makes no more than those.
+use Prim.Native.Nat.{ℕ, _+_, _-_, _<_}
 use mathlib.Core.Path.{_≡_}
 use mathlib.Core.Bool.{Bool, true, false}
 use mathlib.Core.List.{List, _++_}
+use lib.IntN.{ℤ, pos, negsuc}
 use lib.ListN.{take, drop, set}
 use Rattle.word.specs.Word.{pick}
 use Rattle.step.specs.declared.Status.{Status}
 use Rattle.step.specs.declared.Direction.{Direction}
+use Rattle.step.specs.declared.Direction.the-variants.{Forward, Back}
 use Rattle.step.specs.declared.Effect.{Effect}
 use Rattle.step.specs.declared.Attempt.{Attempt}
 use Rattle.step.specs.declared.Attempt.the-variants.{Does}
 use Rattle.step.specs.declared.Store.{Store}
 use Rattle.step.specs.View.{View, seen}
+use Rattle.step.specs.Sizes.{badSizes}
 use Rattle.step.specs.Step.{written, noStore, storeOf, stored, performed, number}
 use Rattle.machine.specs.Turn.{from, newPc, planAt, turnedAt}
 use Rattle.machine.specs.Calls.{turnOf}
@@ -28,7 +31,7 @@ pub record PcAfter (d : Direction) (s : View) (a : Attempt) (new : ℕ) : Type 0
 
 -- the plan a, pc after what it does, and the registers as the word finds them
 pub record Plans (d : Direction) (at : Status) (regs mem table : List ℕ) (a : Attempt) (new : ℕ) (regs′ : List ℕ) : Type 0 where
-  pub attempt : a ≡ planAt d at regs mem table
+  pub attempt : a ≡ planAt d false at regs mem table
   pub pc : PcAfter d (from d (seen at regs mem)) a new
   pub found : regs′ ≡ from d (seen at regs mem) .regs
 
@@ -45,13 +48,24 @@ pub record Shows (e : Effect) (new m : ℕ) (regs mem : List ℕ) (w : Store) (r
 -- The turn over the memory read: its refusal w, and the status, registers and memory after it. One that is not live leaves the
 -- memory mem, and tells what it would store.
 pub record Steps (live : Bool) (d : Direction) (at : Status) (regs mem read table : List ℕ) (w : ℕ) (at′ : Status) (s : Store) (regs′ mem′ : List ℕ) : Type 0 where
-  pub refusal : w ≡ number (planAt d at regs read table)
-  pub status : at′ ≡ turnedAt d at regs read table .at
-  pub registers : regs′ ≡ turnedAt d at regs read table .regs
-  pub memory : mem′ ≡ pick live (turnedAt d at regs read table .memory ++ drop (at .m) mem) mem
-  pub store : s ≡ pick live noStore (plannedStore (planAt d at regs read table) (from d (seen at regs read)))
+  pub refusal : w ≡ number (planAt d false at regs read table)
+  pub status : at′ ≡ turnedAt d false at regs read table .at
+  pub registers : regs′ ≡ turnedAt d false at regs read table .regs
+  pub memory : mem′ ≡ pick live (turnedAt d false at regs read table .memory ++ drop (at .m) mem) mem
+  pub store : s ≡ pick live noStore (plannedStore (planAt d false at regs read table) (from d (seen at regs read)))
 
 -- ---- a run of turns
+
+-- the turns this way up to the last position
+abbrev pub room : Direction → ℤ → ℕ
+room Forward (pos n) = 9223372036854775807 - n
+room Forward (negsuc n) = 9223372036854775808 + n
+room Back (pos n) = 9223372036854775808 + n
+room Back (negsuc n) = 9223372036854775807 - n
+
+-- what ends it at the last position, where more turns are asked for
+abbrev pub endRefusal : Bool → Status → List ℕ → List ℕ → ℕ
+endRefusal more at l t = pick more (pick (badSizes at l t) 10 21) 0
 
 abbrev pub batchIn : Ran → Batch
 batchIn a = record { turns = a .turns; refusal = a .refusal; state = a .state }

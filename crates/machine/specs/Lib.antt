@@ -1,4 +1,5 @@
 pub mod Turn
+pub mod Position
 pub mod Calls
 pub mod Claims
 pub mod Batch

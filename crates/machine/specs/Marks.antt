@@ -2,6 +2,7 @@
 use Prim.Native.Nat.{ℕ}
 use mathlib.Core.Path.{_≡_}
 use mathlib.Core.List.{List, [], _∷_}
+use lib.IntN.{pos}
 use lib.ListN.{getD}
 use Rattle.step.specs.declared.Direction.{Direction}
 use Rattle.step.specs.declared.Direction.the-variants.{Forward, Back}
@@ -39,6 +40,7 @@ at pc br a b node k m n l =
             k = k;
             m = m;
             n = n;
+            position = pos 0;
           };
       memory = l;
     }

@@ -11,10 +11,10 @@ use Rattle.step.specs.declared.Direction.{Direction}
 use Rattle.step.specs.declared.Attempt.{Attempt}
 use Rattle.step.specs.declared.Attempt.the-variants.{Refused, Does}
 use Rattle.step.specs.declared.Store.{Store}
-use Rattle.step.specs.View.{View, Bounds}
+use Rattle.step.specs.View.{View}
 use Rattle.step.specs.Step.{noStore, storeOf}
 use Rattle.machine.specs.Turn.{from}
-use Rattle.machine.specs.Calls.{viewOf, planOf, turnOf, TurnPromise}
+use Rattle.machine.specs.Calls.{Bounded, machineOf, viewOf, planOf, turnOf, TurnPromise}
 use Rattle.machine.specs.declared.Record.{Record}
 use Rattle.machine.specs.declared.Turned.{Turned}
 use Rattle.machine.specs.declared.Preview.{Preview}
@@ -47,7 +47,7 @@ previewOf d r mem table =
 -- What a preview from r, mem and table promises of its answer; and the bounds of its arguments, as of a turn's.
 pub record PreviewPromise (d : Direction) (r : Record) (mem table : List ℕ) (p : Preview) : Type 0 where
   pub answer : p ≡ previewOf d r mem table
-  pub bounds : Bounds (viewOf r mem)
+  pub bounds : Bounded (machineOf r mem)
 
 -- ---- what is claimed: a preview p is the turn made on a copy, with answer a and memory mem′. Proved in proofs/Shown.
 

@@ -67,19 +67,21 @@ finishes l i = eqb (getD l i 0) finishWord
 
 -- ---- refusals in order, in the view s that the word finds
 
--- those before the word's own attempt a; old is pc before it shrank
-unfoldable pub judged : List ℕ → Direction → ℕ → View → Attempt → Attempt
-judged t Forward old s a =
+-- those before the word's own attempt a; last: there is no position further this way; old is pc before it shrank
+unfoldable pub judged : List ℕ → Direction → Bool → ℕ → View → Attempt → Attempt
+judged t Forward last old s a =
     refuse (badSizes (s .at) (s .memory) t) 10
+    (refuse last 21
     (refuse (not (isCode (s .at) (pc s))) 11
     (refuse (finishes (s .memory) (pc s)) 12
-    a))
-judged t Back old s a =
+    a)))
+judged t Back last old s a =
     refuse (badSizes (s .at) (s .memory) t) 10
+    (refuse last 21
     (refuse (isReady (s .at) && starts (s .at) (s .memory) old) 12
     (refuse (not (isCode (s .at) (pc s))) 11
     (refuse (isReady (s .at) && finishes (s .memory) (pc s)) 18
-    a)))
+    a))))
 
 -- the word's own: 13 to 17 and 14
 abbrev pub executed : List ℕ → Direction → View → Attempt
@@ -94,8 +96,8 @@ landed Forward s (Does e) =
 landed Back s a = a
 
 -- what a turn would do, or why it is refused
-abbrev pub planned : List ℕ → Direction → View → Attempt
-planned t d s = let s′ = from d s in judged t d (pc s) s′ (landed d s′ (executed t d s′))
+abbrev pub planned : List ℕ → Direction → Bool → View → Attempt
+planned t d last s = let s′ = from d s in judged t d last (pc s) s′ (landed d s′ (executed t d s′))
 
 -- the view after the turn, the old one where it is refused
 abbrev pub turned : Direction → Attempt → View → View
@@ -104,8 +106,8 @@ turned d (Does e) s = to d (performed e (from d s))
 
 -- ---- the same of lent memory and table, whose first M and 9 N words count
 
-abbrev pub planAt : Direction → Status → List ℕ → List ℕ → List ℕ → Attempt
-planAt d at regs mem table = planned (nodes at table) d (seen at regs mem)
+abbrev pub planAt : Direction → Bool → Status → List ℕ → List ℕ → List ℕ → Attempt
+planAt d last at regs mem table = planned (nodes at table) d last (seen at regs mem)
 
-abbrev pub turnedAt : Direction → Status → List ℕ → List ℕ → List ℕ → View
-turnedAt d at regs mem table = turned d (planAt d at regs mem table) (seen at regs mem)
+abbrev pub turnedAt : Direction → Bool → Status → List ℕ → List ℕ → List ℕ → View
+turnedAt d last at regs mem table = turned d (planAt d last at regs mem table) (seen at regs mem)

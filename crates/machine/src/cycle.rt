@@ -1,6 +1,7 @@
 // The cycle of one turn, in place: the registers stand in a lent array of the caller's, so that a run
 // of turns neither copies nor rebuilds the record. Each big function has one caller, and is inlined.
 ghost use mathlib.Core.Path.{_≡_};
+ghost use mathlib.Core.Bool.{false};
 ghost use lib.ListN.{take};
 ghost use Rattle.word.specs.Word.{pick};
 ghost use Rattle.step.specs.View.{seen, nodes};
@@ -109,7 +110,8 @@ fn land(a: Attempt, new: u32, at: Status, regs: &[u32], mem: &[u32]) -> Attempt
     }
 }
 
-// The refusals around the word's own attempt a; old is pc before it shrank, new is pc after the turn.
+// The refusals around the word's own attempt a, but for 21, which the run sees to; old is pc before it
+// shrank, new is pc after the turn.
 fn judge(
     d: Direction,
     old: u32,
@@ -122,7 +124,7 @@ fn judge(
 ) -> Attempt
     ensures { λ r.
         ⌜ (PcAfter d (seen at (now (regs .entry)) (now (mem .entry))) a new
-        → r ≡ judged (nodes at (now (table .entry))) d old (seen at (now (regs .entry)) (now (mem .entry))) (landed d (seen at (now (regs .entry)) (now (mem .entry))) a)) ⌝ }
+        → r ≡ judged (nodes at (now (table .entry))) d false old (seen at (now (regs .entry)) (now (mem .entry))) (landed d (seen at (now (regs .entry)) (now (mem .entry))) a)) ⌝ }
 {
     let sizes = are_bad_sizes(at, mem, table);
     let pc = look(regs, 0);

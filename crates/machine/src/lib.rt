@@ -1,22 +1,29 @@
 // The register record and its turns.
 ghost use mathlib.Core.Path.{_≡_};
+ghost use Prim.Native.Nat.{_≤_};
+ghost use lib.ListN.{take};
 ghost use Rattle.qins.specs.Decode.{isInstruction};
+ghost use Rattle.step.specs.View.{nodes};
 ghost use Rattle.step.specs.declared.Direction.{Direction};
 ghost use Rattle.machine.specs.Calls.{statusOf, updated, zeros, wrongSizes, TurnPromise};
 ghost use Rattle.machine.specs.Batch.{BatchPromise};
 ghost use Rattle.machine.specs.Preview.{reported, PreviewPromise};
-ghost use Rattle.machine.specs.InPlace.{Runs};
+ghost use Rattle.machine.specs.Position.{advanced};
+ghost use Rattle.machine.specs.InPlace.{room, endRefusal, Runs};
 
 mod cycle;
+mod position;
 
 use step::Direction;
 use step::Status;
 use step::Store;
+use step::lent::select;
 use step::lent::word_at;
 use step::perform::no_store;
 
 // Document 01's record: registers 0 pc, 1 br, 2 ro, 3 sp, 4-15 r1-r12; the node qifv and the wait
-// count qifw; and the sizes: K words of code, M of memory, N nodes.
+// count qifw; and the sizes: K words of code, M of memory, N nodes. And document 02's position: the
+// accepted turns forward less those back.
 #[repr(C)]
 pub struct Record {
     pub regs: [u32; 16],
@@ -25,6 +32,7 @@ pub struct Record {
     pub k: u32,
     pub m: u32,
     pub n: u32,
+    pub position: i64,
 }
 
 // What a turn answers: the refusal, 0 for none, and the new record.
@@ -76,6 +84,14 @@ fn report(refusal: u32, state: Record, s: Store, present: u32) -> Preview
     }
 }
 
+// The refusal of a turn that the position has no room for, if there is one.
+fn end_refusal(more: bool, at: Status, mem: &[u32], table: &[u32]) -> u32
+    ensures { λ r. ⌜ r ≡ endRefusal more at (take (at .m) (now (mem .entry))) (nodes at (now (table .entry))) ⌝ }
+{
+    let refusal = word::choose(step::sizes::are_bad_sizes(at, mem, table), 10, 21);
+    word::choose(more, refusal, 0)
+}
+
 impl Record {
     // The most that M and N may be, and the words of a node.
     pub const MAX_WORDS: u32 = step::sizes::MAX_WORDS;
@@ -94,6 +110,7 @@ impl Record {
             k: 0,
             m: 0,
             n: 0,
+            position: 0,
         }
     }
 
@@ -110,21 +127,34 @@ impl Record {
         }
     }
 
-    // The record with what turns leave of its registers and status.
-    fn update(self, at: Status, regs: [u32; 16]) -> Record
-        ensures { λ r. ⌜ r ≡ updated self at regs ⌝ }
+    // The record k turns further, with what they leave of its registers and status.
+    fn update(self, d: Direction, k: u32, at: Status, regs: [u32; 16]) -> Record
+        requires { ⌜ k ≤ room d (self .position) ⌝ }
+        ensures { λ r. ⌜ r ≡ updated self (advanced d k (self .position)) at regs ⌝ }
     {
         let mut next = self;
         next.regs = regs;
         next.qifv = at.qifv;
         next.qifw = at.qifw;
+        next.position = position::advance(d, k, self.position);
         next
     }
 
-    fn answer(self, turns: u32, refusal: u32, at: Status, regs: [u32; 16], store: Store) -> Ran
-        ensures { λ r. ⌜ r ≡ record { turns = turns; refusal = refusal; state = updated self at regs; store = store } ⌝ }
+    // What a run answers that made so many turns, or showed one more: k in all.
+    fn answer(
+        self,
+        d: Direction,
+        k: u32,
+        turns: u32,
+        refusal: u32,
+        at: Status,
+        regs: [u32; 16],
+        store: Store,
+    ) -> Ran
+        requires { ⌜ k ≤ room d (self .position) ⌝ }
+        ensures { λ r. ⌜ r ≡ record { turns = turns; refusal = refusal; state = updated self (advanced d k (self .position)) at regs; store = store } ⌝ }
     {
-        let state = self.update(at, regs);
+        let state = self.update(d, k, at, regs);
         Ran {
             turns,
             refusal,
@@ -142,7 +172,8 @@ impl Record {
 
     // Turns until n are made or one is refused; where it is not live, it answers the first turn of them,
     // made over shown, which is only read. The registers are taken out of the record once and put back
-    // once. The turn has this one caller, whatever is asked, so that it is inlined into the loop.
+    // once, and the loop ends before the last position, so that no turn looks at it. The turn has this
+    // one caller, whatever is asked, so that it is inlined into the loop.
     fn run(
         self,
         d: Direction,
@@ -156,19 +187,22 @@ impl Record {
     {
         let mut regs = self.regs;
         let mut at = self.status();
+        let most = position::limit(d, self.position, n);
         let mut i = 0;
-        while i < n {
+        while i < most {
             let t = cycle::turn(d, live, at, &mut regs, mem, shown, table);
             let refusal = t.refusal;
             let next = t.at;
             let store = t.store;
             if !word::both(refusal == 0, live) {
-                return self.answer(i, refusal, next, regs, store);
+                let k = word::choose(refusal == 0, i + 1, i);
+                return self.answer(d, k, i, refusal, next, regs, store);
             }
             at = next;
             i += 1;
         }
-        self.answer(i, 0, at, regs, no_store())
+        let refusal = end_refusal(most < n, at, select(live, mem, shown), table);
+        self.answer(d, i, i, refusal, at, regs, no_store())
     }
 
     fn batch(self, d: Direction, n: u32, mem: &mut [u32], table: &[u32]) -> Batch

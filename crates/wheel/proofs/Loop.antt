@@ -11,8 +11,7 @@ use lib.ListN.{length, getD, drop, drop-of-length-le}
 use lib.Seq.{drop-cons}
 use borrow.Author.Tests.{eq-eqb, ne-eqb}
 use Rattle.word.specs.Word.{pick}
-use Rattle.step.specs.View.{Bounds}
-use Rattle.machine.specs.Calls.{viewOf}
+use Rattle.machine.specs.Calls.{machineOf, Bounded}
 use Rattle.machine.specs.declared.Record.{Record}
 use Rattle.wheel.specs.Wheel.{Wheel, wheelOf, started, ended, taken, run, followOf, WheelPromise}
 use Rattle.wheel.specs.declared.Wheeled.{Wheeled}
@@ -61,7 +60,7 @@ module _ {given : ℕ} {samples table : List ℕ} {w₀ : Wheeled} {mem₀ : Lis
 
 -- ---- the given sample
 
-module _ {given last : ℕ} (samples : List ℕ) (r : Record) (mem table : List ℕ) {n : ℕ} (e : last ≡ given) (f : n ≡ pick (ltb 3 last) 20 0) (g : Bounds (viewOf r mem)) where
+module _ {given last : ℕ} (samples : List ℕ) (r : Record) (mem table : List ℕ) {n : ℕ} (e : last ≡ given) (f : n ≡ pick (ltb 3 last) 20 0) (g : Bounded (machineOf r mem)) where
   abbrev first : Wheeled
   first = ended n (started last r)
 

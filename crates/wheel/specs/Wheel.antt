@@ -5,8 +5,7 @@ use mathlib.Core.List.{List, [], _∷_}
 use lib.Dec.{eqb, ltb}
 use Rattle.word.specs.Word.{pick, subWord}
 use Rattle.step.specs.declared.Direction.the-variants.{Forward, Back}
-use Rattle.step.specs.View.{Bounds}
-use Rattle.machine.specs.Calls.{viewOf, turnOf, memoryOf, accepted}
+use Rattle.machine.specs.Calls.{machineOf, Bounded, turnOf, memoryOf, accepted}
 use Rattle.machine.specs.declared.Record.{Record}
 use Rattle.machine.specs.declared.Turned.{Turned}
 use Rattle.wheel.specs.declared.Wheeled.{Wheeled}
@@ -91,4 +90,4 @@ followOf given samples r mem table =
 pub record WheelPromise (given : ℕ) (samples : List ℕ) (r : Record) (mem table : List ℕ) (a : Wheeled) (mem′ : List ℕ) : Type 0 where
   pub answer : a ≡ followOf given samples r mem table .answer
   pub memory : mem′ ≡ followOf given samples r mem table .memory
-  pub bounds : Bounds (viewOf r mem)
+  pub bounds : Bounded (machineOf r mem)

@@ -15,5 +15,6 @@ save-refusal-spec =
     let g = k .before .before .args in
     record {
       answer = simp (c .choose2 .ensures, c .before .choose .ensures, c .before .before .has-bad-sizes .ensures, b .back-of .ensures);
-      bounds = save-bounds (g .r) (now (g .mem)) (now (g .table)) (search needs) (λ a. search needs) (search needs) (search needs) (k .before .shared-slice-known .given) (k .shared-slice-known2 .given);
+      bounds = save-bounds (g .r) (now (g .mem)) (now (g .table)) (search needs) (λ a. search needs) (search needs) (search needs) (k .before .shared-slice-known .given) (k .shared-slice-known2 .given)
+          (record { sfits = k .before .before .good .0 .1 .1 .1 .1 .1 .1 .1 .1 .0 .1 });
     }))

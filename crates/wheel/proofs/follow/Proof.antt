@@ -27,13 +27,15 @@ follow-spec =
     let s = t .before .before .before in
     let g = s .before .before .args in
     refused (now (g .samples)) (g .r) (now (g .mem)) (now (g .table)) (t .before .wide .ensures) (t .choose .ensures)
-    (given-bounds (g .r) (now (g .mem)) (search needs) (λ a. search needs) (s .slice-known .given)) (c .if1 .taken))
+    (given-bounds (g .r) (now (g .mem)) (search needs) (λ a. search needs) (s .slice-known .given)
+    (record { sfits = s .before .before .good .0 .1 .1 .1 .1 .1 .1 .1 .1 .0 .1 })) (c .if1 .taken))
     (λ c.
     let t = c .before .before in
     let s = t .before .before .before in
     let g = s .before .before .args in
     begin (now (g .samples)) (g .r) (now (g .mem)) (now (g .table)) (t .before .wide .ensures) (t .choose .ensures)
-    (given-bounds (g .r) (now (g .mem)) (search needs) (λ a. search needs) (s .slice-known .given)) (c .if1 .left) (s .before .before .good .1 .1 .0 .0))
+    (given-bounds (g .r) (now (g .mem)) (search needs) (λ a. search needs) (s .slice-known .given)
+    (record { sfits = s .before .before .good .0 .1 .1 .1 .1 .1 .1 .1 .1 .0 .1 })) (c .if1 .left) (s .before .before .good .1 .1 .0 .0))
     (λ c. search needs)
     (λ c κs. search needs)
     (λ c κs.

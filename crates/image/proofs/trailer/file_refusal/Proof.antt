@@ -7,9 +7,10 @@ unfolding Rattle.image.specs.Load.fileRefusal
 file-refusal-spec =
     tie.close
     (tie.spec
-    (λ c κs. search needs) (λ c κs. search needs) (λ c κs. search needs) (λ c κs. search needs) (λ c κs. search needs) (λ c. search needs) (λ c κs. search needs) (λ c κs. search needs) (λ c κs. search needs) (λ c κs. search needs) (λ c κs. search needs) (λ c κs. search needs) (λ c κs. search needs) (λ c κs. search needs) (λ c κs. search needs) (λ c κs. search needs)
+    (λ c κs. search needs) (λ c κs. search needs) (λ c κs. search needs) (λ c κs. search needs) (λ c κs. search needs) (λ c. search needs) (λ c κs. search needs) (λ c κs. search needs) (λ c κs. search needs) (λ c κs. search needs) (λ c κs. search needs) (λ c κs. search needs) (λ c κs. search needs) (λ c κs. search needs) (λ c κs. search needs) (λ c κs. search needs) (λ c κs. search needs) (λ c κs. search needs)
     (λ c.
-    let s = c .before .before .before .before .before in
-    let f = s .before .before .before in
-    let b = f .before .before .before in
-    simp (c .choose5 .ensures, c .before .choose4 .ensures, c .before .before .has-last .ensures, c .before .before .before .choose3 .ensures, c .before .before .before .before .is-in-range .ensures, s .status .ensures, s .before .choose2 .ensures, s .before .before .choose .ensures, f .both .ensures, f .before .length-of .ensures, f .before .before .read-word .ensures, b .back-of .ensures, b .before .read-record .ensures, b .before .before .trailer-in .ensures, b .before .before .before .kind-of .ensures)))
+    let h = c .before .before .before .before in
+    let r = h .before .before .before .before in
+    let w = r .before .before .before .before in
+    let k = w .before .before .before .before in
+    simp (c .choose6 .ensures, c .before .both .ensures, c .before .before .length-of2 .ensures, c .before .before .before .choose5 .ensures, h .has-last .ensures, h .before .choose4 .ensures, h .before .before .length-of .ensures, h .before .before .before .choose3 .ensures, r .is-in-range .ensures, r .before .status .ensures, r .before .before .choose2 .ensures, r .before .before .before .choose .ensures, w .read-word .ensures, w .before .back-of .ensures, w .before .before .read-record .ensures, w .before .before .before .trailer-in .ensures, k .kind-of .ensures)))

@@ -20,10 +20,10 @@ write-fields-spec =
     let s = w .before .before .before .before .before .before in
     let e : length (s .args .r .regs) ≡ 16 = search needs in
     room (4 * regsAt) (4 * length (s .args .r .regs)) (w .write-words .last .1 .0) (omega (arith, w .write-words .kept .1 .0)))
-    (λ c. search needs) (λ c. search needs) (λ c. search needs) (λ c. search needs) (λ c. search needs) (λ c κs. search needs) (λ c. search needs)
+    (λ c. search needs) (λ c. search needs) (λ c. search needs) (λ c. search needs) (λ c κs. search needs) (λ c. search needs)
     (λ c.
     let v = c .before .before in
-    let w = v .before .before .before .before .before in
+    let w = v .before .before .before .before in
     let a = w .before .before .before .before .before in
     let s = a .before .before .before .before .before .before in
-    fields-written (s .args .r) (now (s .args .out)) (search needs) (a .before .before .before .back-of .ensures) _ _ _ _ (a .write-words .ensures) (w .write-words2 .ensures) refl (v .write-words3 .ensures)))
+    fields-written (s .args .r) (now (s .args .out)) (search needs) (a .before .before .before .back-of .ensures) _ _ _ _ (a .write-words .ensures) (w .write-words2 .ensures) refl (v .write-tail .ensures)))

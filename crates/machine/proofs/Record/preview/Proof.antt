@@ -19,5 +19,6 @@ preview-spec =
       answer =
           preview-is (g .d) (g .self) (now (g .mem)) (now (g .table)) (c .before .before .before .before .before .run .ensures .first refl (omega arith)) (c .before .word-at .ensures)
           (c .report .ensures);
-      bounds = given-bounds (g .self) (now (g .mem)) (search needs) (λ a. search needs) (s .shared-slice-known .given);
+      bounds = given-bounds (g .self) (now (g .mem)) (search needs) (λ a. search needs) (s .shared-slice-known .given)
+          (record { sfits = s .before .good .0 .1 .1 .1 .1 .1 .1 .1 .1 .0 .1 });
     }))
