@@ -7,6 +7,7 @@ pub mod Claims
 pub mod Given
 pub mod Whole
 pub mod Batches
+pub mod Loops
 pub mod Runs
 pub mod Marks
 pub mod Instruction

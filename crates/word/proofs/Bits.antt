@@ -9,7 +9,7 @@ use lib.Signed.{mag, leZ, nonNeg}
 use borrow.Author.Tests.{leb-false, le-ltb}
 use mir.Syntax.{w64}
 use mir.Val.{Fits, SFits, ofZ, toZ, sel}
-use mir.Facts.{toZ-ofZ, ofZ-toZ, fits-ofZ, toZ-pos}
+use mir.Facts.{toZ-ofZ, fits-ofZ, toZ-pos}
 
 -- a signed value as the code reads it, from its bits
 abbrev pub asRead : ℤ → ℤ
