@@ -24,7 +24,9 @@ extern "C" {
 
 /* ---- Types ---- */
 
-/* The registers, the place in the qif table, and the sizes of the memory and table lent with it. */
+/* The registers, the place in the qif table, the sizes of the memory and table lent with it, and the
+ * position. Four bytes before the position are no member's and hold anything, so that two records are
+ * compared member by member, and not by memcmp. */
 typedef struct Record {
     uint32_t regs[16]; /* pc br ro sp r1 .. r12 */
     uint32_t qifv;     /* the current node, 0 for none */
@@ -32,6 +34,7 @@ typedef struct Record {
     uint32_t k;        /* code words, 1 to m: addresses 0 to k-1; k to m-1 are data */
     uint32_t m;        /* memory words, 1 to 8192 */
     uint32_t n;        /* nodes of the qif table, 0 to 511, nine words each */
+    int64_t position;  /* one more for each accepted turn forward, one less for each back */
 } Record;
 
 /* What a turn answers. */
@@ -99,27 +102,28 @@ typedef struct Sampled {
     uint32_t refusal;
 } Sampled;
 
-CRANK_LAYOUT(sizeof(Record) == 84, "Record: 21 words");
+CRANK_LAYOUT(sizeof(Record) == 96, "Record: 21 words, one to fill up, and the position");
 CRANK_LAYOUT(offsetof(Record, qifv) == 64, "Record: registers first");
-CRANK_LAYOUT(sizeof(Turned) == 88, "Turned: 22 words");
-CRANK_LAYOUT(offsetof(Turned, state) == 4, "Turned: record last");
-CRANK_LAYOUT(sizeof(Batch) == 92, "Batch: 23 words");
+CRANK_LAYOUT(offsetof(Record, position) == 88, "Record: position last");
+CRANK_LAYOUT(sizeof(Turned) == 104, "Turned: a word, one to fill up, and a record");
+CRANK_LAYOUT(offsetof(Turned, state) == 8, "Turned: record last");
+CRANK_LAYOUT(sizeof(Batch) == 104, "Batch: two words and a record");
 CRANK_LAYOUT(offsetof(Batch, state) == 8, "Batch: record last");
-CRANK_LAYOUT(sizeof(Preview) == 100, "Preview: 25 words");
+CRANK_LAYOUT(sizeof(Preview) == 112, "Preview: four words and a record");
 CRANK_LAYOUT(offsetof(Preview, changes) == 4, "Preview: refusal first");
 CRANK_LAYOUT(offsetof(Preview, address) == 8, "Preview: then changes");
 CRANK_LAYOUT(offsetof(Preview, value) == 12, "Preview: then address and value");
 CRANK_LAYOUT(offsetof(Preview, state) == 16, "Preview: record last");
-CRANK_LAYOUT(sizeof(Wheeled) == 120, "Wheeled: 29 words, and one to fill up");
+CRANK_LAYOUT(sizeof(Wheeled) == 128, "Wheeled: eight words and a record");
 CRANK_LAYOUT(offsetof(Wheeled, back) == 8, "Wheeled: forward first");
 CRANK_LAYOUT(offsetof(Wheeled, refused) == 16, "Wheeled: then back");
 CRANK_LAYOUT(offsetof(Wheeled, last) == 24, "Wheeled: then refused");
 CRANK_LAYOUT(offsetof(Wheeled, refusal) == 28, "Wheeled: then last and refusal");
 CRANK_LAYOUT(offsetof(Wheeled, state) == 32, "Wheeled: record last");
-CRANK_LAYOUT(sizeof(Loaded) == 88, "Loaded: 22 words");
-CRANK_LAYOUT(offsetof(Loaded, state) == 4, "Loaded: record last");
+CRANK_LAYOUT(sizeof(Loaded) == 104, "Loaded: a word, one to fill up, and a record");
+CRANK_LAYOUT(offsetof(Loaded, state) == 8, "Loaded: record last");
 CRANK_LAYOUT(sizeof(Checked) == 8, "Checked: 2 words");
-CRANK_LAYOUT(sizeof(Bench) == 84, "Bench: a record");
+CRANK_LAYOUT(sizeof(Bench) == 96, "Bench: a record");
 CRANK_LAYOUT(sizeof(Cranked) == 8, "Cranked: 2 words");
 CRANK_LAYOUT(sizeof(Sampled) == 32, "Sampled: 8 words");
 CRANK_LAYOUT(offsetof(Sampled, back) == 8, "Sampled: forward first");
@@ -132,13 +136,15 @@ CRANK_LAYOUT(offsetof(Sampled, refusal) == 28, "Sampled: last, then refusal");
  * A call takes the record by value and answers with the new one. A turn is refused by 10 where k, m
  * or n of the record is out of range, mem is shorter than m words or table than 9 * n. Longer ones
  * may be lent: the excess is never touched. Only data words of mem change, and nothing writes the
- * table. A batch of 0 turns makes none and answers refusal 0, whatever the state is.
+ * table. An accepted turn, a wait too, changes the position by one; directly after 10, whatever the
+ * word is, a turn forward is refused by 21 at INT64_MAX and one back at INT64_MIN. A batch of 0 turns
+ * makes none and answers refusal 0, whatever the state is.
  */
 
 /* 1 where the word is an instruction, else 0. */
 uint32_t qins_is_instruction(uint32_t word);
 
-/* One turn forward: executes the word at pc, or waits there for a cycle. Refusals 10 to 18.
+/* One turn forward: executes the word at pc, or waits there for a cycle. Refusals 10 to 18 and 21.
  * Refused: the answer has the record that was given, and mem is as it was. */
 Turned crank_forward(Record r, uint32_t *mem, size_t mem_len,
                      const uint32_t *table, size_t table_len);
@@ -180,17 +186,18 @@ Wheeled crank_samples(Record r, uint8_t given, const uint8_t *samples, size_t sa
 /* ---- Images: libcapi.a ---- */
 
 /* Reads the image at the end of the file, behind any preface: fills the first m words of mem and
- * the first 9 * n of table, and no more. 8192 and 4599 words are always enough. Refusals 1 to 6.
- * Refused: the answer has a record of zeros, and nothing is written. */
+ * the first 9 * n of table, and no more. 8192 and 4599 words are always enough. It takes both kinds of
+ * image: one of kind 1 has no position, and gives 0. Refusals 1 to 6. Refused: the answer has a record
+ * of zeros, position too, and nothing is written. */
 Loaded crank_load(const uint8_t *file, size_t file_len, uint32_t *mem, size_t mem_len,
                   uint32_t *table, size_t table_len);
 
 /* The number of bytes before the image; 0 where crank_load would refuse by 1 to 5. */
 size_t crank_preface_length(const uint8_t *file, size_t file_len);
 
-/* Writes the image, without a preface, to the front of out: 4 * m + 36 * n + 92 bytes, and nothing
- * behind them. 51256 bytes are always enough. Answers the refusal: 10 as in a turn, 9 where out is
- * too short. Refused: nothing is written. */
+/* Writes the image, of kind 2, with the position and without a preface, to the front of out:
+ * 4 * m + 36 * n + 100 bytes, and nothing behind them. 51264 bytes are always enough. Answers the
+ * refusal: 10 as in a turn, 9 where out is too short. Refused: nothing is written. */
 uint32_t crank_save(Record r, const uint32_t *mem, size_t mem_len,
                     const uint32_t *table, size_t table_len, uint8_t *out, size_t out_len);
 

@@ -1,14 +1,15 @@
 /* Images through every call of crank.h: each is loaded, turned forward until it is refused and back
  * again, in single turns, in batches and by samples, by value and on the lesson bench, and must then
- * be what it was. Every single turn is previewed and must come to what the preview says. After that
- * come calls that must be refused, and must leave everything as it was, but for samples, whose turns
- * before the refused one stand.
+ * be what it was. Every single turn is previewed and must come to what the preview says, and every
+ * accepted turn moves the position by one. After that come calls that must be refused, and must leave
+ * everything as it was, but for samples, whose turns before the refused one stand.
  *
  * usage: roundtrip IMAGE...
  *
- * An image stands at a start and runs to a finish. Its file need have no preface: the program puts
- * some before it. Ends with 1 at the first difference, and also where no image waits, no preview has
- * a memory word that changes or an exchange that changes none, or some refusal was never met.
+ * An image is of kind 1, stands at a start and runs to a finish. Its file need have no preface: the
+ * program puts some before it. It is taken as it is, and as images of kind 2 at several positions. Ends
+ * with 1 at the first difference, and also where no image waits, no preview has a memory word that
+ * changes or an exchange that changes none, or some refusal was never met.
  */
 #include <stdio.h>
 #include <stdlib.h>
@@ -29,7 +30,9 @@ enum {
     MAX_WORDS = 8192,
     MAX_NODES = 511,
     NODE = 9,
-    TRAILER = 92,
+    TRAILER = 100, /* of what a save writes */
+    OLD_TRAILER = 92,
+    MARK = 4, /* its last bytes, which tell the kind */
     MAX_FILE = 65536,
     MAX_IMAGE = 4 * MAX_WORDS + 36 * MAX_NODES + TRAILER,
     PREFACE = 13, /* not whole words, so a preface counted in words is noticed */
@@ -41,7 +44,7 @@ enum {
 
 enum { FORWARD, BACK };
 
-/* All that the calls work on. Nothing but 32-bit words, so memcmp compares it. */
+/* All that the calls work on. */
 typedef struct {
     Bench bench;
     uint32_t mem_len, table_len; /* how much of the words below is lent */
@@ -58,7 +61,7 @@ typedef struct {
 static const char *image = "", *calls = "";
 
 /* What was covered. */
-static unsigned long turned[2], waited, sampled, refused[21], prefaced, empty;
+static unsigned long turned[2], waited, sampled, refused[22], prefaced, empty, positions;
 static struct {
     unsigned long made;
     unsigned long words; /* that would change */
@@ -74,9 +77,21 @@ static void demand(int holds, const char *what)
     }
 }
 
+/* By its members: the bytes between them are no one's. */
+static int same_record(const Record *a, const Record *b)
+{
+    return memcmp(a->regs, b->regs, sizeof a->regs) == 0
+        && a->qifv == b->qifv && a->qifw == b->qifw
+        && a->k == b->k && a->m == b->m && a->n == b->n
+        && a->position == b->position;
+}
+
 static int same(const Machine *a, const Machine *b)
 {
-    return memcmp(a, b, sizeof *a) == 0;
+    return same_record(&a->bench.state, &b->bench.state)
+        && a->mem_len == b->mem_len && a->table_len == b->table_len
+        && memcmp(a->mem, b->mem, sizeof a->mem) == 0
+        && memcmp(a->table, b->table, sizeof a->table) == 0;
 }
 
 static int is_noise(const void *bytes, size_t length)
@@ -166,8 +181,7 @@ static void expect_turn(const Preview *p, int way, uint32_t refusal, const Machi
 {
     static Machine expected;
     demand(p->refusal == refusal, "the preview has another refusal");
-    demand(memcmp(&p->state, &after->bench.state, sizeof p->state) == 0,
-           "the preview has another record");
+    demand(same_record(&p->state, &after->bench.state), "the preview has another record");
     expected = *before;
     expected.bench.state = p->state;
     if (p->changes == 1) {
@@ -234,8 +248,11 @@ static uint32_t until_refused(const Mode *mode, Machine *m, int way)
     uint32_t made = 0;
     Cranked c;
     do {
-        int waits = m->bench.state.qifw > 0;
+        const int waits = m->bench.state.qifw > 0;
+        const int64_t from = m->bench.state.position;
         c = call(mode, m, way);
+        demand(m->bench.state.position == (way == FORWARD ? from + c.turns : from - c.turns),
+               "the position did not go with the turns");
         demand(c.turns <= mode->n, "more turns than asked for");
         demand((c.turns < mode->n) == (c.refusal > 0),
                "a refusal where no turn is missing, or none where one is");
@@ -379,9 +396,36 @@ static void put_word(uint8_t *bytes, size_t index, uint32_t word)
     }
 }
 
+/* Of an image with this trailer. */
+static size_t length_with(size_t trailer, const Record *r)
+{
+    return 4 * (size_t)r->m + 36 * (size_t)r->n + trailer;
+}
+
+/* Of what a save writes. */
 static size_t image_length(const Record *r)
 {
-    return 4 * (size_t)r->m + 36 * (size_t)r->n + TRAILER;
+    return length_with(TRAILER, r);
+}
+
+/* The bytes of a file's trailer, by its last byte. */
+static size_t trailer_of(const File *file)
+{
+    return file->bytes[file->length - 1] == 0x31 ? OLD_TRAILER : TRAILER;
+}
+
+/* The image of a file of kind 1, as one of kind 2 with this position and without a preface. */
+static void renew(const File *file, const Record *r, int64_t position, File *renewed)
+{
+    static const uint8_t MARK_2[MARK] = {0x51, 0x52, 0x4D, 0x32};
+    const size_t length = length_with(OLD_TRAILER, r), back = length_with(TRAILER, r);
+    memcpy(renewed->bytes, file->bytes + file->length - length, length - MARK);
+    uint8_t *end = renewed->bytes + length - MARK;
+    put_word(end, 0, (uint32_t)(uint64_t)position);
+    put_word(end, 1, (uint32_t)((uint64_t)position >> 32));
+    memcpy(end + 8, MARK_2, MARK);
+    put_word(renewed->bytes + back - TRAILER, 0, (uint32_t)back);
+    renewed->length = back;
 }
 
 /* All words noise, and all of them lent. */
@@ -401,19 +445,28 @@ static void load(const uint8_t *bytes, size_t length, Machine *m)
     m->bench.state = l.state;
 }
 
+/* The position in a trailer, which one of kind 1 does not have. */
+static int64_t position_in(const uint8_t *trailer, size_t length)
+{
+    uint64_t low = word_at(trailer, 22), high = word_at(trailer, 23);
+    return length == OLD_TRAILER ? 0 : (int64_t)(high << 32 | low);
+}
+
 /* Compares what was loaded with the file's own bytes; the excess must be noise still. */
 static void matches_file(const Machine *m, const File *file)
 {
     const Record *r = &m->bench.state;
-    const uint8_t *trailer = file->bytes + file->length - TRAILER;
+    const size_t end = trailer_of(file);
+    const uint8_t *trailer = file->bytes + file->length - end;
     const uint8_t *memory = file->bytes + crank_preface_length(file->bytes, file->length);
-    demand(memory + image_length(r) == file->bytes + file->length, "length of the preface");
+    demand(memory + length_with(end, r) == file->bytes + file->length, "length of the preface");
     demand(r->m == word_at(trailer, 1) && r->k == word_at(trailer, 2), "m or k");
     demand(r->n == word_at(trailer, 3), "n");
     for (size_t i = 0; i < 16; i++) {
         demand(r->regs[i] == word_at(trailer, 4 + i), "a register");
     }
     demand(r->qifv == word_at(trailer, 20) && r->qifw == word_at(trailer, 21), "qifv or qifw");
+    demand(r->position == position_in(trailer, end), "position");
     for (size_t i = 0; i < r->m; i++) {
         demand(m->mem[i] == word_at(memory, i), "a memory word");
     }
@@ -439,9 +492,15 @@ static const uint8_t *save(const Machine *m)
     return out;
 }
 
+/* A file of kind 1 as it is with the position 0. */
 static void saves_as_file(const Machine *m, const File *file)
 {
+    static File renewed;
     const size_t length = image_length(&m->bench.state);
+    if (trailer_of(file) == OLD_TRAILER) {
+        renew(file, &m->bench.state, 0, &renewed);
+        file = &renewed;
+    }
     demand(memcmp(save(m), file->bytes + file->length - length, length) == 0,
            "saved bytes differ from the file");
 }
@@ -452,7 +511,7 @@ static void survives_save(const Machine *m)
     static Machine again;
     const Record *r = &m->bench.state;
     load(save(m), image_length(r), &again);
-    demand(memcmp(&again.bench, &m->bench, sizeof m->bench) == 0
+    demand(same_record(&again.bench.state, r)
                && memcmp(again.mem, m->mem, 4 * r->m) == 0
                && memcmp(again.table, m->table, 4 * NODE * r->n) == 0,
            "load of save gives another state");
@@ -486,14 +545,14 @@ static void expect_save_refused(const Machine *given, size_t out_len, uint32_t n
 static void expect_load_refused(const File *file, uint32_t mem_len, uint32_t table_len,
                                 uint32_t number)
 {
-    static const Record zeros = {{0}, 0, 0, 0, 0, 0};
+    static const Record zeros = {{0}, 0, 0, 0, 0, 0, 0};
     static Machine m, given;
     calls = "load";
     fill(&m);
     given = m;
     Loaded l = crank_load(file->bytes, file->length, m.mem, mem_len, m.table, table_len);
     demand(l.refusal == number, "another refusal than expected");
-    demand(memcmp(&l.state, &zeros, sizeof zeros) == 0, "a refused load gives no zeros");
+    demand(same_record(&l.state, &zeros), "a refused load gives no zeros");
     demand(same(&m, &given), "a refused load wrote something");
     demand(number == 6 || crank_preface_length(file->bytes, file->length) == 0,
            "a preface of no image");
@@ -532,6 +591,11 @@ static void there_and_back(const Machine *start, const File *file)
     wheel_there_and_back(start, &end, turns);
     expect_no_turn(start);
     expect_no_turn(&end);
+    /* 12 at the finish, but at the largest position 21. */
+    end.bench.state.position = INT64_MAX;
+    for (size_t i = 0; i < MODE_COUNT; i++) {
+        expect_refused(&MODES[i], &end, FORWARD, 21);
+    }
 }
 
 /* The file with one word of its trailer replaced. */
@@ -539,24 +603,37 @@ static const File *with_trailer_word(const File *file, size_t index, uint32_t wo
 {
     static File changed;
     changed = *file;
-    put_word(changed.bytes + changed.length - TRAILER, index, word);
+    put_word(changed.bytes + changed.length - trailer_of(file), index, word);
     return &changed;
+}
+
+/* The last bytes of the file. */
+static const File *cut_to(size_t length, const File *file)
+{
+    static File cut;
+    memcpy(cut.bytes, file->bytes + file->length - length, length);
+    cut.length = length;
+    return &cut;
 }
 
 static void refused_loads(const File *file, const Record *r)
 {
-    static File cut;
     const uint32_t mem = r->m, table = NODE * r->n;
-    const uint32_t back = (uint32_t)image_length(r);
-    cut = *file;
-    cut.length = TRAILER - 1;
-    expect_load_refused(&cut, mem, table, 1);
-    expect_load_refused(with_trailer_word(file, 22, 0), mem, table, 2);
+    const size_t trailer = trailer_of(file), back = length_with(trailer, r);
+    /* Below its own trailer; the end is looked at before that, but no end of under 92 bytes. */
+    for (size_t length = OLD_TRAILER - 1; length < trailer; length++) {
+        expect_load_refused(cut_to(length, file), mem, table, 1);
+    }
+    expect_load_refused(with_trailer_word(file, trailer / 4 - 1, 0), mem, table, 2);
+    expect_load_refused(cut_to(trailer, with_trailer_word(file, trailer / 4 - 1, 0)), mem, table, 2);
     expect_load_refused(with_trailer_word(file, 2, 0), mem, table, 3);
-    expect_load_refused(with_trailer_word(file, 0, back + 4), mem, table, 4);
-    cut.length = back - 1;
-    memcpy(cut.bytes, file->bytes + file->length - cut.length, cut.length);
-    expect_load_refused(&cut, mem, table, 5);
+    /* That of the other kind too. */
+    expect_load_refused(with_trailer_word(file, 0, (uint32_t)back + 8), mem, table, 4);
+    expect_load_refused(with_trailer_word(file, 0, (uint32_t)back - 8), mem, table, 4);
+    for (size_t length = trailer; length < trailer + 4; length++) {
+        expect_load_refused(cut_to(length, file), mem, table, 5);
+    }
+    expect_load_refused(cut_to(back - 1, file), mem, table, 5);
     expect_load_refused(file, mem - 1, table, 6);
     if (table > 0) {
         expect_load_refused(file, mem, table - 1, 6);
@@ -566,7 +643,7 @@ static void refused_loads(const File *file, const Record *r)
 /* The image of the file, without what stood before it, behind so many bytes of noise. */
 static void put_behind(size_t preface, const File *file, const Record *r, File *behind)
 {
-    const size_t length = image_length(r);
+    const size_t length = length_with(trailer_of(file), r);
     memset(behind->bytes, NOISE, preface);
     memcpy(behind->bytes + preface, file->bytes + file->length - length, length);
     behind->length = preface + length;
@@ -590,7 +667,7 @@ static void prefaces(const Machine *start, const File *file)
 {
     static File behind;
     const Record *r = &start->bench.state;
-    const size_t longest = MAX_FILE - image_length(r);
+    const size_t longest = MAX_FILE - length_with(trailer_of(file), r);
     loads_behind(PREFACE, file, start);
     loads_behind(longest, file, start);
     put_behind(longest + 1, file, r, &behind);
@@ -648,23 +725,81 @@ static void refused_contents(const Machine *start)
     }
 }
 
+/* One turn must lead from one state to the other. */
+static void expect_one(const Mode *mode, const Machine *from, int way, const Machine *to)
+{
+    static Machine m;
+    m = *from;
+    calls = mode->name;
+    Cranked c = mode->call(&m, way, 1);
+    demand(c.turns == 1 && c.refusal == 0, "a turn next to the end of the position is refused");
+    demand(same(&m, to), "a turn next to the end of the position leads elsewhere");
+}
+
+/* The last position in a direction, and the one before it: a turn leads there and the other way, and
+ * the next is refused by 21, back at start too, where else it would be 12, and with a pc that leads to
+ * 11; before 21 comes 10. */
+static void refused_positions(const Machine *start, int way)
+{
+    static Machine last, before, astray, without_code;
+    const int64_t end = way == FORWARD ? INT64_MAX : INT64_MIN;
+    Machine *const earlier = way == FORWARD ? &before : &last;
+    Machine *const later = way == FORWARD ? &last : &before;
+    *earlier = *later = *start;
+    demand(turn_by_value(later, FORWARD, 1).refusal == 0, "no first turn");
+    last.bench.state.position = end;
+    before.bench.state.position = way == FORWARD ? end - 1 : end + 1;
+    astray = without_code = last;
+    astray.bench.state.regs[0] = UINT32_MAX;
+    without_code.bench.state.k = 0;
+    for (size_t i = 0; i < WHEEL_COUNT; i++) {
+        const uint8_t step = way == FORWARD ? 1 : 2;
+        expect_samples(&WHEELS[i], &last, 0, &step, 1, (Sampled){.refused = 1, .last = step}, &last);
+    }
+    for (size_t i = 0; i < MODE_COUNT; i++) {
+        expect_one(&MODES[i], &before, way, &last);
+        expect_refused(&MODES[i], &last, way, 21);
+        expect_one(&MODES[i], &last, way == FORWARD ? BACK : FORWARD, &before);
+        expect_refused(&MODES[i], &astray, way, 21);
+        expect_refused(&MODES[i], &without_code, way, 10);
+    }
+    positions++;
+}
+
+/* Everything with the image of one file. */
+static void examine_file(const File *file)
+{
+    static Machine start;
+    load(file->bytes, file->length, &start);
+    matches_file(&start, file);
+    saves_as_file(&start, file);
+    checks(&start);
+    there_and_back(&start, file);
+    refused_loads(file, &start.bench.state);
+    prefaces(&start, file);
+    refused_sizes(&start);
+    refused_contents(&start);
+    refused_samples(&start);
+    refused_positions(&start, FORWARD);
+    refused_positions(&start, BACK);
+}
+
+/* As it is, and of kind 2: from 0, from below it, over the low word, and near both ends. */
 static void examine(const char *name)
 {
-    static File file;
+    static const int64_t POSITIONS[] = {0, -3, UINT32_MAX - 1, INT64_MIN + 1, INT64_MAX - MAX_TURNS};
+    static File file, renewed;
     static Machine start;
     image = name;
     calls = "file";
     read_file(name, &file);
+    demand(trailer_of(&file) == OLD_TRAILER, "is not of kind 1");
+    examine_file(&file);
     load(file.bytes, file.length, &start);
-    matches_file(&start, &file);
-    saves_as_file(&start, &file);
-    checks(&start);
-    there_and_back(&start, &file);
-    refused_loads(&file, &start.bench.state);
-    prefaces(&start, &file);
-    refused_sizes(&start);
-    refused_contents(&start);
-    refused_samples(&start);
+    for (size_t i = 0; i < sizeof POSITIONS / sizeof *POSITIONS; i++) {
+        renew(&file, &start.bench.state, POSITIONS[i], &renewed);
+        examine_file(&renewed);
+    }
 }
 
 static void report_previews(const char *name, int way)
@@ -681,7 +816,7 @@ static void report_previews(const char *name, int way)
 /* Fails where something was never met; else says what was. */
 static void report(int images)
 {
-    static const int MET[] = {1, 2, 3, 4, 5, 6, 7, 8, 9, 10, 12, 19, 20};
+    static const int MET[] = {1, 2, 3, 4, 5, 6, 7, 8, 9, 10, 12, 19, 20, 21};
     unsigned long total = 0;
     image = "all images";
     calls = "coverage";
@@ -690,13 +825,16 @@ static void report(int images)
     demand(sampled > 0, "no samples were taken");
     demand(prefaced > 0, "no preface was tried");
     demand(empty > 0, "no batch of 0 was tried");
+    demand(positions > 0, "no end of the position was tried");
     for (size_t i = 0; i < sizeof MET / sizeof *MET; i++) {
         demand(refused[MET[i]] > 0, "a refusal was never met");
         total += refused[MET[i]];
     }
     printf("roundtrip: images %d; turns forward %lu, back %lu; single turns out of a wait %lu; "
-           "batches of 0 %lu; samples %lu; loads behind a preface %lu; calls refused %lu\n",
-           images, turned[FORWARD], turned[BACK], waited, empty, sampled, prefaced, total);
+           "batches of 0 %lu; samples %lu; loads behind a preface %lu; ends of the position %lu; "
+           "calls refused %lu\n",
+           images, turned[FORWARD], turned[BACK], waited, empty, sampled, prefaced, positions,
+           total);
     report_previews("forward", FORWARD);
     report_previews("back", BACK);
 }

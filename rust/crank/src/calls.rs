@@ -4,6 +4,7 @@
 //! Every bit pattern is a value of the structs that come back.
 
 use crate::Record;
+use std::mem::offset_of;
 
 /// What a turn answers.
 #[repr(C)]
@@ -107,12 +108,12 @@ pub struct Sampled {
 }
 
 // As the header has them.
-const _: () = assert!(size_of::<Record>() == 84);
-const _: () = assert!(size_of::<Turned>() == 88 && size_of::<Loaded>() == 88);
-const _: () = assert!(size_of::<Preview>() == 100);
-const _: () = assert!(size_of::<Batch>() == 92 && size_of::<Bench>() == 84);
+const _: () = assert!(size_of::<Record>() == 96 && offset_of!(Record, position) == 88);
+const _: () = assert!(size_of::<Turned>() == 104 && size_of::<Loaded>() == 104);
+const _: () = assert!(size_of::<Preview>() == 112);
+const _: () = assert!(size_of::<Batch>() == 104 && size_of::<Bench>() == 96);
 const _: () = assert!(size_of::<Checked>() == 8 && size_of::<Cranked>() == 8);
-const _: () = assert!(size_of::<Wheeled>() == 120 && size_of::<Sampled>() == 32);
+const _: () = assert!(size_of::<Wheeled>() == 128 && size_of::<Sampled>() == 32);
 
 extern "C" {
     fn qins_is_instruction(word: u32) -> u32;
@@ -243,13 +244,14 @@ pub fn is_instruction(word: u32) -> bool {
     unsafe { qins_is_instruction(word) == 1 }
 }
 
-/// One turn forward: executes the word at pc, or waits there. Refusals 10 to 18.
+/// One turn forward: executes the word at pc, or waits there. Refusals 10 to 18 and 21.
 pub fn forward(r: Record, mem: &mut [u32], table: &[u32]) -> Turned {
     // SAFETY: pointers and lengths come from live slices.
     unsafe { crank_forward(r, mem.as_mut_ptr(), mem.len(), table.as_ptr(), table.len()) }
 }
 
-/// One turn back: undoes the forward turn that leads here; refused exactly where there is none.
+/// One turn back: undoes the forward turn that leads here; refused exactly where there is none, as at
+/// the smallest position.
 pub fn back(r: Record, mem: &mut [u32], table: &[u32]) -> Turned {
     // SAFETY: pointers and lengths come from live slices.
     unsafe { crank_back(r, mem.as_mut_ptr(), mem.len(), table.as_ptr(), table.len()) }
@@ -319,8 +321,9 @@ pub fn samples(r: Record, given: u8, samples: &[u8], mem: &mut [u32], table: &[u
     }
 }
 
-/// Reads the image at the end of the file: fills the first M words of `mem` and the first 9N of
-/// `table`, and no more. Refusals 1 to 6; refused, nothing is written.
+/// Reads the image at the end of the file, of either kind, one without a position with 0: fills the
+/// first M words of `mem` and the first 9N of `table`, and no more. Refusals 1 to 6; refused, nothing
+/// is written.
 pub fn load(file: &[u8], mem: &mut [u32], table: &mut [u32]) -> Loaded {
     // SAFETY: pointers and lengths come from live slices.
     unsafe {
@@ -341,8 +344,8 @@ pub fn preface(file: &[u8]) -> &[u8] {
     &file[..unsafe { crank_preface_length(file.as_ptr(), file.len()) }]
 }
 
-/// Writes the image, without a preface, to the front of `out`. Gives the refusal, 10 or 9;
-/// refused, nothing is written.
+/// Writes the image, with the position and without a preface, to the front of `out`. Gives the
+/// refusal, 10 or 9; refused, nothing is written.
 pub fn save(r: Record, mem: &[u32], table: &[u32], out: &mut [u8]) -> u32 {
     // SAFETY: pointers and lengths come from live slices.
     unsafe {

@@ -23,9 +23,9 @@
 //! // An image of the state, as a student hands it in.
 //! let image = machine.save().expect("its sizes are in order");
 //!
-//! // The marker loads it and turns it back by the same count.
+//! // The marker loads it and turns it back by its position: the turns forward less those back.
 //! let mut marked = Machine::load(&image).expect("it is an image");
-//! let undone = marked.turns(Direction::Back, made.turns);
+//! let undone = marked.turns(Direction::Back, marked.record.position.unsigned_abs());
 //! assert_eq!((undone.turns, undone.refusal), (2, 0));
 //! assert_eq!(marked, beginning);
 //! ```
@@ -35,9 +35,11 @@
 //! are not, and the tests of `rust/model` compare every call with an independent model.
 
 pub mod calls;
+mod kind;
 mod machine;
 mod meaning;
 
+pub use kind::Kind;
 pub use machine::{Direction, Machine, Made};
 pub use meaning::{meaning, Call};
 
@@ -69,15 +71,16 @@ pub const PC: usize = 0;
 pub const BR: usize = 1;
 /// The most bytes of a file that can be loaded, preface and image.
 pub const MAX_FILE: usize = 65_536;
-/// The bytes that are enough for any image, without a preface.
+/// The bytes that are enough for any save.
 pub const MAX_IMAGE: usize = image_length(MAX_WORDS, MAX_NODES);
 
-/// The bytes of an image with so many memory words and nodes, without a preface.
+/// The bytes of a saved image with so many memory words and nodes.
 pub const fn image_length(words: usize, nodes: usize) -> usize {
-    4 * words + 4 * NODE_WORDS * nodes + 92
+    4 * words + 4 * NODE_WORDS * nodes + Kind::SAVED.trailer()
 }
 
-/// The registers, the place in the qif table, and the sizes of the memory and table lent with it.
+/// The registers, the place in the qif table, the sizes of the memory and table lent with it, and the
+/// position: how far it was turned.
 #[repr(C)]
 #[derive(Clone, Copy, Debug, Default, PartialEq, Eq, Hash)]
 pub struct Record {
@@ -93,4 +96,6 @@ pub struct Record {
     pub m: u32,
     /// N, the nodes of the qif table.
     pub n: u32,
+    /// One more for each accepted turn forward, one less for each back.
+    pub position: i64,
 }

@@ -1,7 +1,7 @@
 //! A record together with the memory and the table that it is turned with.
 
 use crate::calls::{self, Batch, Checked, Preview, Sampled};
-use crate::{image_length, Record, MAX_IMAGE, MAX_NODES, MAX_WORDS, NODE_WORDS};
+use crate::{image_length, Kind, Record, MAX_IMAGE, MAX_NODES, MAX_WORDS, NODE_WORDS};
 
 /// The direction of a turn.
 #[derive(Clone, Copy, Debug, PartialEq, Eq)]
@@ -41,7 +41,8 @@ pub struct Machine {
 }
 
 impl Machine {
-    /// A machine with the first `k` words of `mem` as code, whose registers, node and wait are 0.
+    /// A machine with the first `k` words of `mem` as code, whose registers, node, wait and position
+    /// are 0.
     pub fn new(k: u32, mem: Vec<u32>, table: Vec<u32>) -> Machine {
         let record = Record {
             k,
@@ -126,9 +127,13 @@ impl Machine {
     /// What a turn would do: its refusal, the record after it, and the memory word that it would
     /// change. The machine stays as it is.
     pub fn preview(&self, direction: Direction) -> Preview {
+        self.preview_from(self.record, direction)
+    }
+
+    fn preview_from(&self, record: Record, direction: Direction) -> Preview {
         match direction {
-            Direction::Forward => calls::preview_forward(self.record, &self.mem, &self.table),
-            Direction::Back => calls::preview_back(self.record, &self.mem, &self.table),
+            Direction::Forward => calls::preview_forward(record, &self.mem, &self.table),
+            Direction::Back => calls::preview_back(record, &self.mem, &self.table),
         }
     }
 
@@ -137,17 +142,27 @@ impl Machine {
         self.preview(direction).refusal
     }
 
-    /// Whether the machine stands at finish: a forward turn gives 12.
+    /// Whether the machine stands at finish: a forward turn gives 12, at the largest position 21.
     pub fn at_finish(&self) -> bool {
-        self.refusal(Direction::Forward) == 12
+        self.ends(Direction::Forward)
     }
 
-    /// Whether the machine stands at start and does not wait: a back turn gives 12.
+    /// Whether the machine stands at start and does not wait: a back turn gives 12, at the smallest
+    /// position 21.
     pub fn at_start(&self) -> bool {
-        self.refusal(Direction::Back) == 12
+        self.ends(Direction::Back)
     }
 
-    /// The image of this state, without a preface.
+    /// Whether the run ends here, wherever the position is.
+    fn ends(&self, direction: Direction) -> bool {
+        let record = Record {
+            position: 0,
+            ..self.record
+        };
+        self.preview_from(record, direction).refusal == 12
+    }
+
+    /// The image of this state, without a preface, in the newest kind.
     ///
     /// # Errors
     ///
@@ -160,6 +175,16 @@ impl Machine {
         }
         image.truncate(image_length(self.record.m as usize, self.record.n as usize));
         Ok(image)
+    }
+
+    /// The image in this kind: the one that the proved save writes, less what an older kind does not
+    /// have.
+    ///
+    /// # Errors
+    ///
+    /// Refusal 10, where the sizes do not fit.
+    pub fn save_as(&self, kind: Kind) -> Result<Vec<u8>, u32> {
+        Ok(kind.of_saved(self.save()?))
     }
 
     /// Looks at the code words and at the links of the table.

@@ -15,10 +15,10 @@ pub enum Call {
 pub fn meaning(refusal: u32, call: Call) -> &'static str {
     match (refusal, call) {
         (0, _) => "not refused",
-        (1, _) => "the file is shorter than 92 bytes or longer than 65536",
+        (1, _) => "the file is shorter than the trailer of an image or longer than 65536 bytes",
         (2, _) => "the last four bytes are not those of an image",
         (3, _) => "M is not 1 to 8192, K not 1 to M, or N over 511",
-        (4, _) => "back is not 4M + 36N + 92",
+        (4, _) => "back is not 4M + 36N and the bytes of the trailer",
         (5, _) => "the file is shorter than the image that it should hold",
         (6, _) => "the lent memory or table is too short",
         (7, _) => "a code word is no instruction",
@@ -39,6 +39,8 @@ pub fn meaning(refusal: u32, call: Call) -> &'static str {
         (18, _) => "the next word would be start",
         (19, _) => "the sample is two steps from the one before",
         (20, _) => "the sample is above 3",
+        (21, Call::Back) => "the position is the smallest",
+        (21, _) => "the position is the largest",
         _ => "unknown",
     }
 }

@@ -2,7 +2,7 @@
 //! the refusals in words.
 
 use crank::calls::{self, Batch, Bench, Cranked, Preview, Sampled, Turned};
-use crank::{meaning, Call, Direction, Machine, Made, Record, MAX_FILE};
+use crank::{meaning, Call, Direction, Kind, Machine, Made, Record, MAX_FILE};
 use std::fs;
 use std::iter;
 use std::path::Path;
@@ -17,9 +17,8 @@ const PATIENCE: Duration = Duration::from_secs(60);
 const UNKNOWN: &str = "unknown";
 /// Samples in the order of turns forward.
 const CYCLE: [u8; 4] = [0, 1, 3, 2];
-/// The place of words in the trailer, counted from the end of the file.
-const BACK_WORD: usize = 92;
-const M_WORD: usize = 88;
+/// The place of M in the trailer.
+const M_WORD: usize = 4;
 
 /// start; xori r1, 5; finish; a data word.
 fn short() -> Machine {
@@ -63,46 +62,57 @@ fn run(machine: &Machine, direction: Direction) -> (Vec<Machine>, u32) {
     }
 }
 
+/// The image with a number added to the word at this byte.
+fn with_word(image: &[u8], at: usize, change: u32) -> Vec<u8> {
+    let mut file = image.to_vec();
+    let old = u32::from_le_bytes(file[at..at + 4].try_into().expect("four bytes"));
+    let new = old.wrapping_add(change).to_le_bytes();
+    file[at..at + 4].copy_from_slice(&new);
+    file
+}
+
 #[test]
 fn refused_loads() {
-    let image = short().save().expect("an image");
-    let word = |from_end: usize, change: u32| {
-        let mut file = image.clone();
-        let at = file.len() - from_end;
-        let old = u32::from_le_bytes(file[at..at + 4].try_into().expect("four bytes"));
-        let new = old.wrapping_add(change).to_le_bytes();
-        file[at..at + 4].copy_from_slice(&new);
-        file
-    };
-    let long = |length: usize| [vec![0; length - image.len()], image.clone()].concat();
-    let files = [
-        (Vec::new(), 1),
-        (image[image.len() - 91..].to_vec(), 1),
-        (long(MAX_FILE + 1), 1),
-        (word(4, 1), 2),
-        (word(M_WORD, 8189), 3),
-        (word(M_WORD, 0_u32.wrapping_sub(4)), 3),
-        (word(M_WORD, 1), 4),
-        (word(BACK_WORD, 1), 4),
-        (image[1..].to_vec(), 5),
-    ];
-    for (file, refusal) in &files {
-        assert_eq!(Machine::load(file), Err(*refusal), "{} bytes", file.len());
-        assert_eq!(calls::preface(file), b"", "{} bytes", file.len());
+    for kind in [Kind::One, Kind::Two] {
+        let image = short().save_as(kind).expect("an image");
+        let (end, trailer) = (image.len() - 4, image.len() - kind.trailer());
+        let word = |at: usize, change: u32| with_word(&image, at, change);
+        let long = |length: usize| [vec![0; length - image.len()], image.clone()].concat();
+        let files = [
+            (Vec::new(), 1),
+            (image[image.len() - 91..].to_vec(), 1),
+            (image[trailer + 1..].to_vec(), 1),
+            (long(MAX_FILE + 1), 1),
+            (word(end, 1), 2),
+            (word(end, 2 << 24), 2),
+            (word(trailer + M_WORD, 8189), 3),
+            (word(trailer + M_WORD, 0_u32.wrapping_sub(4)), 3),
+            (word(trailer + M_WORD, 1), 4),
+            (word(trailer, 1), 4),
+            (word(trailer, 8), 4),
+            (word(trailer, 0_u32.wrapping_sub(8)), 4),
+            (image[1..].to_vec(), 5),
+            (image[trailer..].to_vec(), 5),
+        ];
+        for (file, refusal) in &files {
+            let name = format!("{kind:?}, {} bytes", file.len());
+            assert_eq!(Machine::load(file), Err(*refusal), "{name}");
+            assert_eq!(calls::preface(file), b"", "{name}");
+        }
+        let (file, preface) = (long(MAX_FILE), MAX_FILE - image.len());
+        assert_eq!(Machine::load(&file), Ok(short()));
+        assert_eq!(calls::preface(&file).len(), preface);
+        println!("machine: {} loads of {kind:?} refused", files.len());
     }
-    assert_eq!(Machine::load(&long(MAX_FILE)), Ok(short()));
-    assert_eq!(
-        calls::preface(&long(MAX_FILE)).len(),
-        MAX_FILE - image.len()
-    );
-    println!("machine: {} loads refused", files.len());
 }
 
 #[test]
 fn saved_and_loaded() {
     let mut states = 0;
     for (name, file, machine) in examples() {
-        assert_eq!(machine.save().as_ref(), Ok(&file), "{name}");
+        // The examples are older than positions.
+        assert_eq!(Kind::of(&file), Some(Kind::One), "{name}");
+        assert_eq!(machine.save_as(Kind::One).as_ref(), Ok(&file), "{name}");
         for state in run(&machine, Forward).0 {
             let image = state.save().expect("its sizes are in order");
             assert_eq!(Machine::load(&image).as_ref(), Ok(&state), "{name}");
@@ -131,6 +141,7 @@ fn sizes_that_do_not_fit() {
         spoil(&mut machine);
         let before = machine.clone();
         assert_eq!((machine.save(), machine.check().refusal), (Err(10), 10));
+        assert_eq!(machine.save_as(Kind::One), Err(10));
         for direction in [Forward, Back] {
             assert_eq!(machine.refusal(direction), 10);
             assert_eq!(machine.turn(direction), 10);
@@ -460,20 +471,20 @@ fn meanings() {
         Call::Check,
     ];
     for call in calls {
-        for refusal in 0..=20 {
+        for refusal in 0..=21 {
             let said = meaning(refusal, call);
             assert!(said != UNKNOWN && !said.is_empty(), "{refusal} of {call:?}");
         }
-        for refusal in [21, u32::MAX] {
+        for refusal in [22, u32::MAX] {
             assert_eq!(meaning(refusal, call), UNKNOWN, "{refusal} of {call:?}");
         }
     }
     // Where a number means something else back, it is said.
-    for refusal in [11, 12, 13, 18] {
+    for refusal in [11, 12, 13, 18, 21] {
         let [forward, back] = [Call::Forward, Call::Back].map(|call| meaning(refusal, call));
         assert_ne!(forward, back, "{refusal}");
     }
-    println!("machine: 0 to 20 in words, for {} calls", calls.len());
+    println!("machine: 0 to 21 in words, for {} calls", calls.len());
 }
 
 type OnBench = fn(&mut Bench, &mut [u32], &[u32]) -> u32;

@@ -1,6 +1,8 @@
 //! The program `crank`: what it prints on the examples, and its exit status.
 
+use crank::Machine;
 use std::fs::{self, File};
+use std::io::Write;
 use std::path::{Path, PathBuf};
 use std::process::{Command, Output, Stdio};
 
@@ -50,6 +52,46 @@ fn examples_end_with_0() {
     }
     println!("crank: {count} examples");
     assert!(count > 0);
+}
+
+/// What is printed of these bytes, and the status.
+fn of_bytes(bytes: &[u8]) -> (String, String, Option<i32>) {
+    let (reader, mut writer) = std::io::pipe().expect("a pipe");
+    // A pipe takes so many bytes before anybody reads.
+    assert!(bytes.len() < 4096);
+    writer.write_all(bytes).expect("the pipe");
+    drop(writer);
+    said(&run(Stdio::from(reader), Stdio::piped(), &[]))
+}
+
+/// The position is not printed, and no turn but one at its end is refused for it.
+#[test]
+fn images_with_a_position() {
+    let file = fs::read(examples().join("loop.img")).expect("an example");
+    let out = fs::read_to_string(examples().join("loop.out")).expect("its output");
+    let at = |position: i64| {
+        let mut machine = Machine::load(&file).expect("an image");
+        machine.record.position = position;
+        machine.save().expect("an image")
+    };
+    for position in [0, -1, i64::MIN, i64::MAX - 36] {
+        let found = of_bytes(&at(position));
+        assert_eq!(found, (out.clone(), String::new(), Some(0)), "{position}");
+    }
+    // At finish too, since 21 comes before 12.
+    let found = of_bytes(&at(i64::MAX - 35));
+    let end = out.replace("refusal 12", "refusal 21");
+    assert_eq!(found, (end, String::new(), Some(0)));
+    let zeros = ["0"; 16].join(" ");
+    let none = format!("turns 0 refusal 21\n{zeros}\nnode 0 wait 0\n");
+    let found = of_bytes(&at(i64::MAX));
+    assert_eq!(found, (none, String::new(), Some(0)));
+    let image = at(0);
+    for (length, refusal) in [(99, 1), (100, 5), (139, 5)] {
+        let found = of_bytes(&image[image.len() - length..]);
+        let expected = format!("refusal {refusal}\n");
+        assert_eq!(found, (expected, String::new(), Some(1)), "{length}");
+    }
 }
 
 #[test]
