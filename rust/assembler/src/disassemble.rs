@@ -3,7 +3,7 @@
 use crate::branches::{branches, Branch};
 use crate::instruction::Instruction;
 use crate::preface;
-use crank::{calls, Machine, Record, NODE_FIELDS, NODE_WORDS, REGISTERS};
+use crank::{calls, Kind, Machine, Record, NODE_FIELDS, NODE_WORDS, REGISTERS};
 use std::collections::BTreeSet;
 use std::fmt::Write;
 
@@ -31,6 +31,10 @@ pub fn disassemble(file: &[u8]) -> Result<String, u32> {
     source.memory(code, data);
     source.text.push('\n');
     source.record(&machine.record);
+    // Also where it is 0: this line is what makes an image kind 2.
+    if Kind::of(file) == Some(Kind::Two) {
+        source.line("", &format!(".position {}", machine.record.position));
+    }
     source.nodes(&machine.table);
     Ok(source.text.trim_end().to_string() + "\n")
 }

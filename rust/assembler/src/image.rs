@@ -12,7 +12,7 @@ impl Source<'_> {
         }
         let machine = self.machine()?;
         let saved = machine
-            .save()
+            .save_as(self.kind())
             .map_err(|refusal| self.about(format!("the image is refused by {refusal}")))?;
         if self.preface.len() + saved.len() > MAX_FILE {
             let message = format!("the image would be longer than {MAX_FILE} bytes");

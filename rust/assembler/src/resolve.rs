@@ -4,7 +4,8 @@ use crate::forms::{para_number, register_number, Form, Kind};
 use crate::instruction::Instruction;
 use crate::source::{Place, Setting, Source, Word};
 use crate::text::{
-    as_count, as_word, number, operands, quoted, split_word, starts_name, without_parentheses, FROM,
+    as_count, as_word, number, operands, position, quoted, split_word, starts_name,
+    without_parentheses, FROM,
 };
 use crate::Checked;
 use crank::{Record, NODE_FIELDS, NODE_WORDS, W};
@@ -25,6 +26,7 @@ impl Source<'_> {
             Place::Register(register) => record.regs[register] = as_word(self.value(set.value)?)?,
             Place::Qifv => record.qifv = self.link(set.value)?,
             Place::Qifw => record.qifw = as_count(number(set.value)?)?,
+            Place::Position => record.position = position(set.value)?,
         }
         Ok(())
     }

@@ -6,8 +6,7 @@ use crate::text::{
     without_comment, FROM,
 };
 use crate::{preface, Checked, Error};
-use crank::REGISTERS;
-use crank::{MAX_NODES, MAX_WORDS};
+use crank::{Kind, MAX_NODES, MAX_WORDS, REGISTERS};
 use std::collections::HashMap;
 
 /// A section of the memory, by its place among the words.
@@ -33,12 +32,13 @@ pub struct Node<'a> {
     pub fields: &'a str,
 }
 
-/// What a line gives its first value: a register, or qifv or qifw.
+/// What a line gives its first value: a register, qifv, qifw or the position.
 #[derive(Clone, Copy, PartialEq, Eq)]
 pub enum Place {
     Register(usize),
     Qifv,
     Qifw,
+    Position,
 }
 
 /// A line that sets a first value.
@@ -124,6 +124,18 @@ impl<'a> Source<'a> {
         })
     }
 
+    /// The kind of its image: where no position is written, the one that has none.
+    pub fn kind(&self) -> Kind {
+        match self.sets(Place::Position) {
+            true => Kind::Two,
+            false => Kind::One,
+        }
+    }
+
+    fn sets(&self, place: Place) -> bool {
+        self.settings.iter().any(|set| set.place == place)
+    }
+
     fn push(&mut self, word: Word<'a>) -> Checked<()> {
         if self.code.len() + self.data.len() == MAX_WORDS {
             return Err(format!("more than {MAX_WORDS} memory words"));
@@ -160,6 +172,8 @@ impl<'a> Source<'a> {
             "qifv" => self.setting(Place::Qifv, rest),
             "qifw" if rest.is_empty() => Err(".qifw takes a number".into()),
             "qifw" => self.setting(Place::Qifw, rest),
+            "position" if rest.is_empty() => Err(".position takes a number".into()),
+            "position" => self.setting(Place::Position, rest),
             "preface" => {
                 self.preface.extend(preface::read(rest)?);
                 Ok(())
@@ -222,11 +236,12 @@ impl<'a> Source<'a> {
     }
 
     fn setting(&mut self, place: Place, value: &'a str) -> Checked<()> {
-        if self.settings.iter().any(|set| set.place == place) {
+        if self.sets(place) {
             let name = match place {
                 Place::Register(register) => REGISTERS[register],
                 Place::Qifv => "qifv",
                 Place::Qifw => "qifw",
+                Place::Position => "position",
             };
             return Err(format!("{name} is set twice"));
         }

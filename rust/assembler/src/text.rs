@@ -101,8 +101,8 @@ pub fn operands(text: &str) -> Checked<Vec<&str>> {
     Ok(parts)
 }
 
-/// A number, which a word of 32 bits or its negative can hold.
-pub fn number(text: &str) -> Checked<i64> {
+/// The digits of a number, behind its sign and 0x, and their radix.
+fn digits(text: &str) -> Checked<(&str, u32)> {
     let unsigned = text.strip_prefix('-').unwrap_or(text);
     let (digits, radix) = match unsigned.get(..2) {
         Some("0x" | "0X") => (&unsigned[2..], 16),
@@ -115,10 +115,27 @@ pub fn number(text: &str) -> Checked<i64> {
             false => what,
         });
     }
+    Ok((digits, radix))
+}
+
+/// A number, which a word of 32 bits or its negative can hold.
+pub fn number(text: &str) -> Checked<i64> {
+    let (digits, radix) = digits(text)?;
     let value = u32::from_str_radix(digits, radix)
         .map(i64::from)
         .map_err(|_| format!("{} is out of range: a word has 32 bits", quoted(text)))?;
     Ok(if text.starts_with('-') { -value } else { value })
+}
+
+/// A position, a number of 64 bits with its sign.
+pub fn position(text: &str) -> Checked<i64> {
+    let (digits, radix) = digits(text)?;
+    let sign = if text.starts_with('-') { "-" } else { "" };
+    // With its sign, since the smallest has no counterpart.
+    i64::from_str_radix(&format!("{sign}{digits}"), radix).map_err(|_| {
+        let (low, high) = (i64::MIN, i64::MAX);
+        format!("{} is out of range: {low} to {high}", quoted(text))
+    })
 }
 
 pub fn in_range(value: i64, low: i64, high: i64) -> Checked<i64> {

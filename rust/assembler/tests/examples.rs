@@ -114,4 +114,7 @@ D4:     .word 1, 0x00010000, 0, 4
 ";
     let image = assembled(source).image;
     assert_eq!(disassemble(&image).as_deref(), Ok(source));
+    let with_position = source.replace("        .node 1", "        .position -5\n        .node 1");
+    let image = assembled(&with_position).image;
+    assert_eq!(disassemble(&image), Ok(with_position));
 }

@@ -7,7 +7,7 @@ use std::fs;
 use std::path::Path;
 
 /// Pieces that mean something, or look as if they did.
-const PIECES: [&str; 36] = [
+const PIECES: [&str; 38] = [
     "start",
     "bra ",
     "from ",
@@ -34,12 +34,14 @@ const PIECES: [&str; 36] = [
     "0x",
     "4294967296",
     "-1",
+    "9223372036854775808",
     "\n",
     "\r\n",
     "\t",
     ".word ",
     ".space 9",
     ".reg ",
+    ".position ",
     ".node ",
     ".preface \"",
     ".data\n",

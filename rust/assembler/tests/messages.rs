@@ -178,6 +178,26 @@ const DIRECTIVES: &[(&str, &str)] = &[
     (".qifv -1", "-1 is out of range: 0 to 4294967295"),
     (".qifw", ".qifw takes a number"),
     (".qifw -1", "-1 is out of range: 0 to 4294967295"),
+    (".position", ".position takes a number"),
+    (".position start", "\"start\" is not a number"),
+    (".position -", "\"-\" is not a number"),
+    (".position +1", "\"+1\" is not a number"),
+    (".position 0x", "\"0x\" is not a number"),
+    (
+        ".position 9223372036854775808",
+        "\"9223372036854775808\" is out of range: \
+         -9223372036854775808 to 9223372036854775807",
+    ),
+    (
+        ".position -9223372036854775809",
+        "\"-9223372036854775809\" is out of range: \
+         -9223372036854775808 to 9223372036854775807",
+    ),
+    (
+        ".position 0x8000000000000000",
+        "\"0x8000000000000000\" is out of range: \
+         -9223372036854775808 to 9223372036854775807",
+    ),
     (
         ".preface hello",
         "the preface text stands between two quotation marks \"",
@@ -249,6 +269,10 @@ fn errors_over_several_lines() {
         ),
         ("start\n.reg r1 1\n.reg R1 2", "line 3: r1 is set twice"),
         ("start\n.qifw 1\n.qifw 1", "line 3: qifw is set twice"),
+        (
+            "start\n.position 0\n.Position 0",
+            "line 3: position is set twice",
+        ),
         (
             "start\n.node a\n.node a",
             "line 3: the node a is defined twice",

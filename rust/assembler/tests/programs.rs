@@ -164,7 +164,8 @@ const INPUTS: &[(&str, i32, &str)] = &[
     (
         "disassemble < a.qasm",
         1,
-        "disassemble: refused by 1: the file is shorter than 92 bytes or longer than 65536",
+        "disassemble: refused by 1: the file is shorter than the trailer of an image or longer \
+         than 65536 bytes",
     ),
 ];
 

@@ -1,6 +1,6 @@
 //! Every image that loads has a source that assembles to the same bytes.
 
-use crank::{calls, Machine, MAX_FILE, MAX_NODES, MAX_WORDS, NODE_WORDS};
+use crank::{calls, Kind, Machine, MAX_FILE, MAX_NODES, MAX_WORDS, NODE_WORDS};
 use crank_assembler::{assemble, disassemble, files};
 use crank_model::cover::Cover;
 use crank_model::damage::damage;
@@ -11,7 +11,7 @@ use crank_model::structured;
 use crank_model::words::EXTREMES;
 
 /// What the images have to bring, each in some of them.
-const KINDS: [&str; 12] = [
+const SEEN: [&str; 17] = [
     "image",
     "crooked link",
     "code word that is no instruction",
@@ -20,6 +20,11 @@ const KINDS: [&str; 12] = [
     "extreme register",
     "node that is none",
     "wait",
+    "no position",
+    "position 0",
+    "position below 0",
+    "position over 32 bits",
+    "position at an end",
     "jump by label",
     "landing",
     "branch by number",
@@ -49,17 +54,29 @@ fn count_state(file: &[u8], cover: &mut Cover) {
     let nodes = machine.table.chunks(NODE_WORDS);
     let mut links = nodes.flat_map(|node| &node[..NODE_WORDS - 1]);
     let preface = calls::preface(file);
-    count(links.any(|link| *link > record.n), KINDS[1]);
+    count(links.any(|link| *link > record.n), SEEN[1]);
     count(
         !code.iter().all(|word| calls::is_instruction(*word)),
-        KINDS[2],
+        SEEN[2],
     );
-    count(!preface.is_empty(), KINDS[3]);
-    count(std::str::from_utf8(preface).is_err(), KINDS[4]);
+    count(!preface.is_empty(), SEEN[3]);
+    count(std::str::from_utf8(preface).is_err(), SEEN[4]);
     let extreme = |value: &u32| *value > 8192 && EXTREMES.contains(value);
-    count(record.regs.iter().any(extreme), KINDS[5]);
-    count(record.qifv > record.n, KINDS[6]);
-    count(record.qifw > 0, KINDS[7]);
+    count(record.regs.iter().any(extreme), SEEN[5]);
+    count(record.qifv > record.n, SEEN[6]);
+    count(record.qifw > 0, SEEN[7]);
+    let position = Kind::of(file)
+        .filter(|kind| *kind == Kind::Two)
+        .map(|_| record.position);
+    count(position.is_none(), SEEN[8]);
+    count(position == Some(0), SEEN[9]);
+    count(position.is_some_and(|p| p < 0), SEEN[10]);
+    count(
+        position.is_some_and(|p| i32::try_from(p).is_err()),
+        SEEN[11],
+    );
+    let ends = [i64::MIN, i64::MAX];
+    count(position.is_some_and(|p| ends.contains(&p)), SEEN[12]);
 }
 
 /// Counts each branch and each `ld` of data by how it is written.
@@ -78,8 +95,9 @@ fn count_source(source: &str, cover: &mut Cover) {
     }
 }
 
-/// A file with a preface; none where the sizes do not fit.
-fn file_of(preface: &[u8], machine: &state::Machine) -> Option<Vec<u8>> {
+/// A file of either kind with a preface; none where the sizes do not fit.
+fn file_of(rng: &mut Rng, machine: &state::Machine) -> Option<Vec<u8>> {
+    let preface = random_preface(rng);
     let machine = Machine {
         record: crank::Record {
             regs: machine.record.regs,
@@ -88,11 +106,13 @@ fn file_of(preface: &[u8], machine: &state::Machine) -> Option<Vec<u8>> {
             k: machine.record.k,
             m: machine.record.m,
             n: machine.record.n,
+            position: rng.pick(&[machine.record.position, 0, -1, i64::MIN, i64::MAX]),
         },
         mem: machine.mem.clone(),
         table: machine.table.clone(),
     };
-    Some([preface, &machine.save().ok()?].concat())
+    let image = machine.save_as(rng.pick(&[Kind::One, Kind::Two])).ok()?;
+    Some([preface, image].concat())
 }
 
 fn random_preface(rng: &mut Rng) -> Vec<u8> {
@@ -132,13 +152,13 @@ fn generated_images() {
     let mut cover = Cover::default();
     for _ in 0..rounds(20_000) {
         let machine = random_machine(&mut rng);
-        match file_of(&random_preface(&mut rng), &machine) {
+        match file_of(&mut rng, &machine) {
             Some(file) => there_and_back(&file, &mut cover),
             None => cover.count("refused by save"),
         }
     }
     cover.summary("generated images");
-    cover.demand(&KINDS);
+    cover.demand(&SEEN);
 }
 
 #[test]
@@ -147,7 +167,7 @@ fn damaged_files() {
     let mut cover = Cover::default();
     for _ in 0..rounds(20_000) {
         let machine = structured::running(&mut rng, 20);
-        let mut file = file_of(&random_preface(&mut rng), &machine).expect("its sizes fit");
+        let mut file = file_of(&mut rng, &machine).expect("its sizes fit");
         for _ in 0..rng.between(1, 4) {
             let place = rng.index(file.len());
             file[place] ^= 1 << rng.below(8);
@@ -164,7 +184,8 @@ fn damaged_files() {
         }
     }
     cover.summary("damaged files");
-    cover.demand(&KINDS[..5]);
+    cover.demand(&SEEN[..5]);
+    cover.demand(&SEEN[8..13]);
     cover.demand(&[
         "refusal 1",
         "refusal 2",
@@ -190,6 +211,7 @@ fn biggest_images() {
             let table = vec![u32::MAX; NODE_WORDS * n];
             let mut machine = Machine::new(k as u32, mem, table);
             machine.record.regs = [u32::MAX; 16];
+            machine.record.position = i64::MIN;
             let image = machine.save().expect("its sizes fit");
             let room = MAX_FILE - image.len();
             for preface in [rng.bytes(room), vec![b'\n'; room], vec![b'a'; room]] {

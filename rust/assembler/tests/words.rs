@@ -197,6 +197,33 @@ fn extreme_values() {
     assert_eq!(words[29..32], [u32::MAX; 3]);
 }
 
+/// The position stands before the last four bytes, low word first; a source without one has an image
+/// of kind 1.
+#[test]
+fn positions() {
+    let table = [
+        ("0", [0, 0]),
+        ("-0", [0, 0]),
+        ("7", [7, 0]),
+        ("-1", [u32::MAX; 2]),
+        ("-0x10", [0xFFFF_FFF0, u32::MAX]),
+        ("0X123456789aBCDEF0", [0x9ABC_DEF0, 0x1234_5678]),
+        ("4294967296", [0, 1]),
+        ("9223372036854775807", [u32::MAX, 0x7FFF_FFFF]),
+        ("0x7fffffffffffffff", [u32::MAX, 0x7FFF_FFFF]),
+        ("-9223372036854775808", [0, 0x8000_0000]),
+        ("-0x8000000000000000", [0, 0x8000_0000]),
+    ];
+    let old = words(&assembled("start\n.qifw 3").image);
+    assert_eq!((old[1], old[22..].to_vec()), (96, vec![3, 0x314D_5251]));
+    for (number, [low, high]) in table {
+        let new = words(&assembled(&format!(".POSITION\t{number}\nstart\n.qifw 3")).image);
+        assert_eq!(new[22..], [3, low, high, 0x324D_5251], "{number}");
+        assert_eq!((new[1], &new[2..22]), (104, &old[2..22]), "{number}");
+        assert_eq!(new[0], old[0], "{number}");
+    }
+}
+
 #[test]
 fn bytes_of_a_preface() {
     let source = r#"start
@@ -208,10 +235,12 @@ fn bytes_of_a_preface() {
 
 #[test]
 fn size_of_the_file() {
-    let text = "x".repeat(MAX_FILE - 96);
-    let image = assembled(&format!("start\n.preface \"{text}\"")).image;
-    assert_eq!(image.len(), MAX_FILE);
-    let refused = assemble(&format!("start\n.preface \"{text}y\"")).unwrap_err();
-    let message = "line 2: the image would be longer than 65536 bytes";
-    assert_eq!(refused.to_string(), message);
+    for (length, more) in [(96, ""), (104, ".position 0")] {
+        let text = "x".repeat(MAX_FILE - length);
+        let image = assembled(&format!("start\n{more}\n.preface \"{text}\"")).image;
+        assert_eq!(image.len(), MAX_FILE);
+        let refused = assemble(&format!("start\n{more}\n.preface \"{text}y\"")).unwrap_err();
+        let message = "line 3: the image would be longer than 65536 bytes";
+        assert_eq!(refused.to_string(), message);
+    }
 }
