@@ -66,9 +66,9 @@ const COMMANDS: &[Command] = &[
     Command { names: &["pv", "previous"], takes: "", run: previous,
         does: "what a turn back would change; makes none" },
     Command { names: &["w", "where"], takes: "", run: where_it_stands,
-        does: "pc, br, node and wait, and the words around pc" },
+        does: "pc, br, node, wait and position, and the words around pc" },
     Command { names: &["regs"], takes: "", run: regs,
-        does: "the registers, node and wait" },
+        does: "the registers, node, wait and position" },
     Command { names: &["m", "mem"], takes: "FROM [TO]", run: mem,
         does: "the memory words from address FROM to TO" },
     Command { names: &["table"], takes: "", run: table,
@@ -78,11 +78,11 @@ const COMMANDS: &[Command] = &[
     Command { names: &["check"], takes: "", run: check,
         does: "looks at all code words and links" },
     Command { names: &["c", "counts"], takes: "", run: counts,
-        does: "the turns made since the file was opened or reset" },
+        does: "the turns made since the file was opened or reset; the position" },
     Command { names: &["s", "save"], takes: "FILE", run: save,
-        does: "writes the state as an image, and says the counts" },
+        does: "writes the state as an image, and says counts and position" },
     Command { names: &["reset"], takes: "", run: reset,
-        does: "the state as opened, counts 0" },
+        does: "the state and position as opened, counts 0" },
     Command { names: &["h", "help", "?"], takes: "", run: help,
         does: "this table" },
     Command { names: &["q", "quit", "exit"], takes: "", run: quit,
@@ -259,7 +259,7 @@ fn check(desk: &mut Desk, _: &[&str], out: &mut dyn Write) -> Done {
 }
 
 fn counts(desk: &mut Desk, _: &[&str], out: &mut dyn Write) -> Done {
-    Ok(writeln!(out, "{}", desk.counts)?)
+    Ok(writeln!(out, "{}", desk.tally())?)
 }
 
 fn save(desk: &mut Desk, arguments: &[&str], out: &mut dyn Write) -> Done {
@@ -274,13 +274,13 @@ fn save(desk: &mut Desk, arguments: &[&str], out: &mut dyn Write) -> Done {
     })?;
     let bytes = [desk.exercise.preface.as_slice(), &image].concat();
     files::write(path, &bytes)?;
-    let (length, counts) = (bytes.len(), desk.counts);
-    Ok(writeln!(out, "saved in {name}: {length} bytes; {counts}")?)
+    let (length, tally) = (bytes.len(), desk.tally());
+    Ok(writeln!(out, "saved in {name}: {length} bytes; {tally}")?)
 }
 
 fn reset(desk: &mut Desk, _: &[&str], out: &mut dyn Write) -> Done {
     desk.reset();
-    Ok(writeln!(out, "as opened; {}", desk.counts)?)
+    Ok(writeln!(out, "as opened; {}", desk.tally())?)
 }
 
 fn help(_: &mut Desk, _: &[&str], out: &mut dyn Write) -> Done {

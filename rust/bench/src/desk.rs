@@ -58,7 +58,12 @@ impl Desk {
         }
     }
 
-    /// The state as opened, and no turns made.
+    /// The turns since it was opened, and the position, which has those from before too.
+    pub fn tally(&self) -> String {
+        format!("{}; position {}", self.counts, self.machine.record.position)
+    }
+
+    /// The state as opened, its position too, and no turns made.
     pub fn reset(&mut self) {
         self.machine = self.exercise.machine.clone();
         self.counts = Counts::default();

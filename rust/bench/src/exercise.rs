@@ -1,6 +1,6 @@
 //! An exercise as it is opened: an image, or a source that is assembled first.
 
-use crank::{calls, meaning, Call, Machine};
+use crank::{calls, meaning, Call, Kind, Machine};
 use crank_assembler::{assemble, files};
 use std::path::Path;
 
@@ -10,6 +10,8 @@ const NO_IMAGE: u32 = 2;
 /// What was read from a file.
 pub struct Exercise {
     pub machine: Machine,
+    /// Whether the file has a position; without one the machine's is 0.
+    pub has_position: bool,
     /// What stood before the image; a save keeps it.
     pub preface: Vec<u8>,
     /// The labels of a source with their addresses; an image has none.
@@ -54,6 +56,7 @@ impl Exercise {
         })?;
         Ok(Exercise {
             machine,
+            has_position: Kind::of(image) == Some(Kind::Two),
             preface: calls::preface(image).to_vec(),
             labels: Vec::new(),
             nodes: Vec::new(),

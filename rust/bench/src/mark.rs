@@ -1,4 +1,5 @@
-//! `bench mark`: turns what was handed in back by its counts, and compares it with its beginning.
+//! `bench mark`: turns what was handed in back by its counts or its position, and compares it with
+//! its beginning.
 
 mod arguments;
 mod cores;
@@ -12,6 +13,7 @@ mod report;
 use crate::exercise::Exercise;
 use crate::terminal::Progress;
 use arguments::Asked;
+use counts::{Due, Net};
 use crank::Machine;
 use crank_assembler::files;
 use judge::{Ending, Judged};
@@ -23,13 +25,14 @@ use std::path::Path;
 const DOES_NOT_FIT: u8 = 1;
 
 const HELP: &str = "\
-bench mark HAND-IN FORWARD BACK [--from BEGINNING]
+bench mark HAND-IN [FORWARD BACK] [--from BEGINNING]
     Turns the image HAND-IN back by FORWARD less BACK, its accepted turns, and
-    says whether it fits.
+    says whether it fits. Without these it is turned by its position less that of
+    BEGINNING.
 bench mark --list LIST [--from BEGINNING]
     Marks every hand-in of LIST: in each line a name, relative to LIST's folder,
-    then FORWARD and BACK.
-Without --from a hand-in need only come back to start.
+    then FORWARD and BACK, or the name alone.
+Without --from a hand-in need only come back to start, and its position began at 0.
 
 --from BEGINNING  the exercise as it was given out, an image or a source (.qasm)
 --                what follows is no option
@@ -56,19 +59,33 @@ fn mark(out: &mut impl Write, asked: Asked) -> Result<bool, String> {
     match asked {
         Asked::Help => out.write_all(HELP.as_bytes()).map_err(fault).map(|()| true),
         Asked::List { list, from } => many::mark(out, list, open(from)?.as_ref()),
-        Asked::One { hand_in, net, from } => {
-            let beginning = open(from)?;
-            let hand_in = Exercise::open(hand_in)?.machine;
-            let mut progress = Progress::new();
-            let judged = Judged::new(hand_in.clone(), net, beginning.as_ref(), |turns| {
-                progress.show(|| format!("{turns} of {} turns", net.turns));
-            });
-            progress.erase();
-            let ending = Ending::new(hand_in, &judged);
-            report::single(out, &judged, &ending).map_err(fault)?;
-            Ok(judged.fits())
-        }
+        Asked::One {
+            hand_in,
+            counts,
+            from,
+        } => one(out, hand_in, counts, open(from)?.as_ref()),
     }
+}
+
+/// Marks one hand-in, with a whole report; gives whether it fits.
+fn one(
+    out: &mut impl Write,
+    path: &Path,
+    counts: Option<Net>,
+    beginning: Option<&Machine>,
+) -> Result<bool, String> {
+    let hand_in = Exercise::open(path)?;
+    let due = Due::new(&hand_in, counts, beginning)
+        .map_err(|why| format!("{}: {why}", files::shown(path)))?;
+    let all = due.net.turns;
+    let mut progress = Progress::new();
+    let judged = Judged::new(&hand_in, due, beginning, |turns| {
+        progress.show(|| format!("{turns} of {all} turns"));
+    });
+    progress.erase();
+    let ending = Ending::new(hand_in.machine, &judged);
+    report::single(out, &judged, &ending).map_err(|e| files::output_fault(&e))?;
+    Ok(judged.fits())
 }
 
 fn open(beginning: Option<&Path>) -> Result<Option<Machine>, String> {

@@ -17,7 +17,7 @@ use std::path::Path;
 const USAGE: &str = "\
 usage: bench FILE               obeys commands, from a terminal or a pipe
        bench FILE -c COMMANDS   obeys these
-       bench mark HAND-IN FORWARD BACK [--from BEGINNING]
+       bench mark HAND-IN [FORWARD BACK] [--from BEGINNING]
                                 marks what is handed in; bench mark --help says more
 FILE is an image, or a source whose name ends in .qasm. Commands stand one a line or with ;
 between them.
@@ -116,7 +116,11 @@ fn greet(file: &Path, desk: &Desk, out: &mut dyn Write) -> io::Result<()> {
     let place = show::place(&desk.machine);
     write!(out, "{}: ", files::shown(file))?;
     write!(out, "K {}, M {}, N {}; ", record.k, record.m, record.n)?;
-    writeln!(out, "pc {pc}{place}")?;
+    write!(out, "pc {pc}{place}")?;
+    match record.position {
+        0 => writeln!(out)?,
+        position => writeln!(out, "; position {position}")?,
+    }
     if !desk.machine.at_start() {
         writeln!(out, "counts begin at 0: add those of what came before")?;
     }

@@ -55,7 +55,7 @@ fn columns(out: &mut dyn Write, rows: &[Vec<String>]) -> io::Result<()> {
     Ok(())
 }
 
-/// The registers, the node and the wait.
+/// The registers, the node, the wait and the position.
 pub fn registers(out: &mut dyn Write, desk: &Desk) -> io::Result<()> {
     let record = &desk.machine.record;
     let cells: Vec<String> = REGISTERS
@@ -66,16 +66,18 @@ pub fn registers(out: &mut dyn Write, desk: &Desk) -> io::Result<()> {
     let rows: Vec<Vec<String>> = cells.chunks(COLUMNS).map(<[String]>::to_vec).collect();
     columns(out, &rows)?;
     let node = node(record.qifv, &desk.exercise);
-    writeln!(out, "node {node}, wait {}", word(record.qifw))
+    let (wait, position) = (word(record.qifw), record.position);
+    writeln!(out, "node {node}, wait {wait}, position {position}")
 }
 
-/// pc, br, node and wait, and the words around pc.
+/// pc, br, node, wait and position, and the words around pc.
 pub fn place_in_code(out: &mut dyn Write, desk: &Desk) -> io::Result<()> {
     let record = &desk.machine.record;
     let [pc, br] = [record.regs[PC], record.regs[BR]].map(word);
     let node = node(record.qifv, &desk.exercise);
-    let (wait, place) = (word(record.qifw), place(&desk.machine));
-    writeln!(out, "pc {pc}, br {br}, node {node}, wait {wait}{place}")?;
+    let (wait, position) = (word(record.qifw), record.position);
+    write!(out, "pc {pc}, br {br}, node {node}, wait {wait}, ")?;
+    writeln!(out, "position {position}{}", place(&desk.machine))?;
     let (here, last) = (record.regs[PC] as usize, record.m as usize - 1);
     if here > last {
         return writeln!(
@@ -247,13 +249,16 @@ fn after(machine: &Machine, preview: &Preview) -> Machine {
 /// What turns changed.
 fn changes(out: &mut dyn Write, before: &Machine, desk: &Desk) -> io::Result<()> {
     let rows = changed(before, &desk.machine, &desk.exercise);
-    if rows.is_empty() {
-        writeln!(out, "  the state is as before")?;
+    let [old, new] = [before, &desk.machine].map(|machine| machine.record.position);
+    match rows.is_empty() {
+        true if old == new => writeln!(out, "  the state is as before"),
+        true => writeln!(out, "  only the position changed: {old} -> {new}"),
+        false => columns(out, &rows),
     }
-    columns(out, &rows)
 }
 
-/// The registers, the node, the wait and the words that differ, a row each, old and new.
+/// The registers, the node, the wait and the words that differ, a row each, old and new. The position
+/// has no row: every turn moves it by one.
 fn changed(before: &Machine, after: &Machine, exercise: &Exercise) -> Vec<Vec<String>> {
     let (old, new) = (&before.record, &after.record);
     let mut rows = Vec::new();

@@ -6,20 +6,32 @@ use std::path::Path;
 /// The most characters of what was typed that a fault repeats.
 const REPEATED: usize = 40;
 
-/// A decimal number, or a hexadecimal one with 0x.
-///
-/// # Errors
-///
-/// A line that says what is wrong with it.
-pub fn number(text: &str, most: u64) -> Result<u64, String> {
+/// The digits of a decimal number, or of a hexadecimal one with 0x, and the radix; none where it is
+/// no number.
+fn digits(text: &str) -> Option<(&str, u32)> {
     let hexadecimal = text.strip_prefix("0x").or(text.strip_prefix("0X"));
     let (digits, radix) = match hexadecimal {
         Some(digits) => (digits, 16),
         None => (text, 10),
     };
-    if digits.is_empty() || !digits.chars().all(|c| c.is_digit(radix)) {
+    let good = !digits.is_empty() && digits.chars().all(|c| c.is_digit(radix));
+    good.then_some((digits, radix))
+}
+
+/// Whether it is a number, of any size.
+pub fn is_number(text: &str) -> bool {
+    digits(text).is_some()
+}
+
+/// A number.
+///
+/// # Errors
+///
+/// A line that says what is wrong with it.
+pub fn number(text: &str, most: u64) -> Result<u64, String> {
+    let Some((digits, radix)) = digits(text) else {
         return Err(format!("{} is no number", quoted(text)));
-    }
+    };
     // Digits alone fail only where they are too many.
     match u64::from_str_radix(digits, radix) {
         Ok(value) if value <= most => Ok(value),

@@ -246,6 +246,7 @@ fn of_model(from: &state::Machine) -> Machine {
         k: r.k,
         m: r.m,
         n: r.n,
+        position: r.position,
     };
     let (mem, table) = (from.mem.clone(), from.table.clone());
     Machine { record, mem, table }

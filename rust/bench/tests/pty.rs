@@ -80,6 +80,11 @@ fn endless(folder: &Path) -> Terminal {
     terminal
 }
 
+/// What `counts` says after so many turns forward from the position 0.
+fn forward(turns: u64) -> String {
+    format!("forward {turns}, back 0, net {turns}; position {turns}\n")
+}
+
 /// All registers and words, as they are shown.
 fn state(terminal: &mut Terminal) -> String {
     ask(terminal, "regs") + &ask(terminal, "m 0 8")
@@ -91,12 +96,13 @@ fn ctrl_c_stops_a_run_with_exact_counts() {
     let before = state(&mut terminal);
     let turns = stop(&mut terminal, "run");
     let counts = ask(&mut terminal, "counts");
-    assert_eq!(counts, format!("forward {turns}, back 0, net {turns}\n"));
+    assert_eq!(counts, forward(turns));
     assert_ne!(state(&mut terminal), before);
     let back = ask(&mut terminal, &format!("b {turns}"));
     assert!(back.contains(&format!("{turns} turns back\n")), "{back}");
     let counts = ask(&mut terminal, "c");
-    assert_eq!(counts, format!("forward {turns}, back {turns}, net 0\n"));
+    let line = format!("forward {turns}, back {turns}, net 0; position 0\n");
+    assert_eq!(counts, line);
     assert_eq!(state(&mut terminal), before);
     let refused = ask(&mut terminal, "b");
     assert_eq!(refused, "refused by 12: pc is at start; nothing changed\n");
@@ -155,8 +161,7 @@ fn ctrl_c_stops_the_wheel_with_exact_counts() {
     terminal.press(CTRL_C);
     let (samples, turns) = stopped_wheel(&terminal.prompt().0);
     assert_eq!(turns, samples.min(STEPS));
-    let counts = ask(&mut terminal, "c");
-    assert_eq!(counts, format!("forward {turns}, back 0, net {turns}\n"));
+    assert_eq!(ask(&mut terminal, "c"), forward(turns));
     let back = ask(&mut terminal, &format!("b {turns}"));
     assert!(back.contains(&format!("{turns} turns back\n")), "{back}");
     assert_eq!(state(&mut terminal), before);
@@ -181,7 +186,7 @@ fn a_line_that_the_terminal_cuts_is_bad() {
             "bench: a terminal cuts a line of 4095 bytes or more; a file may have more samples\n";
         assert!(answer.ends_with(fault), "{answer}");
     }
-    assert_eq!(ask(&mut terminal, "c"), "forward 2040, back 0, net 2040\n");
+    assert_eq!(ask(&mut terminal, "c"), forward(2040));
     terminal.press("q\n");
     assert!(terminal.end().1.success());
 }
@@ -210,7 +215,7 @@ fn ctrl_c_at_the_prompt_gives_a_new_one() {
     let (answer, going) = terminal.prompt();
     assert_eq!((answer.as_str(), going), ("^C\n> ", true));
     // What was typed before is gone, and the next run is not stopped.
-    assert_eq!(ask(&mut terminal, "c"), "forward 0, back 0, net 0\n");
+    assert_eq!(ask(&mut terminal, "c"), forward(0));
     let run = ask(&mut terminal, "r");
     assert!(
         run.starts_with("2 turns forward, then refused by 12"),
@@ -238,6 +243,7 @@ fn long_hand_ins(name: &str) -> PathBuf {
     let code = vec![0x1A00_0000, 0x0340_0001, 0x0500_FFFF, 0x0500_FFFF];
     let mut machine = Machine::new(4, code, Vec::new());
     machine.record.regs[0] = 3;
+    machine.record.position = LONG as i64;
     fs::write(folder.join("long.img"), machine.save().expect("an image")).expect("a file");
     let list = format!("long.img {LONG} 0\n").repeat(2);
     fs::write(folder.join("list"), list).expect("a list");
@@ -272,7 +278,7 @@ fn progress_of_a_list() {
 #[test]
 fn progress_of_one_hand_in() {
     let folder = long_hand_ins("one");
-    let terminal = bench(&folder, &["mark", "long.img", &LONG.to_string(), "0"]);
+    let terminal = bench(&folder, &["mark", "long.img"]);
     let screen = marked(terminal, &format!(" of {LONG} turns"));
     let report = format!("\x1b[K{LONG} turns back: all accepted\n");
     assert!(screen.contains(&report), "{screen}");
@@ -301,8 +307,7 @@ fn ctrl_c_drops_the_rest_of_the_line() {
     let mut terminal = endless(&scratch("rest"));
     let turns = stop(&mut terminal, "run; save never.img; q");
     let counts = ask(&mut terminal, "c; c");
-    let line = format!("forward {turns}, back 0, net {turns}\n");
-    assert_eq!(counts, line.repeat(2));
+    assert_eq!(counts, forward(turns).repeat(2));
     terminal.press("q\n");
     assert!(terminal.end().1.success());
 }
@@ -338,7 +343,7 @@ fn lines_at_once() {
         let (screen, status) = terminal.end();
         assert!(status.success(), "{mode}: {screen}");
         assert!(
-            screen.contains("forward 2, back 1, net 1\n"),
+            screen.contains("forward 2, back 1, net 1; position 1\n"),
             "{mode}: {screen}"
         );
     }

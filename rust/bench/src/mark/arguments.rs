@@ -11,7 +11,8 @@ pub enum Asked<'a> {
     Help,
     One {
         hand_in: &'a Path,
-        net: Net,
+        /// None where its position is to say how far it was turned.
+        counts: Option<Net>,
         from: Option<&'a Path>,
     },
     List {
@@ -49,13 +50,26 @@ pub fn read(arguments: &[OsString]) -> Result<Asked<'_>, String> {
             "--list LIST has its hand-ins in LIST, not {}",
             files::shown(first.as_ref())
         ))),
-        (None, [hand_in, forward, back]) => Ok(Asked::One {
+        (None, [hand_in, counts @ ..]) => Ok(Asked::One {
             hand_in: Path::new(*hand_in),
-            net: Net::new(number(forward)?, number(back)?),
+            counts: net(counts)?,
             from,
         }),
-        _ => Err(advised("HAND-IN FORWARD BACK or --list LIST is needed")),
+        (None, []) => Err(needed()),
     }
+}
+
+/// Both counts, or none.
+fn net(counts: &[&OsString]) -> Result<Option<Net>, String> {
+    match counts {
+        [] => Ok(None),
+        [forward, back] => Ok(Some(Net::new(number(forward)?, number(back)?))),
+        _ => Err(needed()),
+    }
+}
+
+fn needed() -> String {
+    advised("HAND-IN, HAND-IN FORWARD BACK or --list LIST is needed")
 }
 
 /// Keeps the value of an option that may be given once.

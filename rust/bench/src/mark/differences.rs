@@ -3,7 +3,7 @@
 use crank::{Machine, NODE_FIELDS, NODE_WORDS, PC, REGISTERS};
 use std::fmt;
 
-/// A place of a state that holds a word.
+/// A place of a state that holds a word, or the position.
 #[derive(Clone, Copy, Debug, PartialEq)]
 pub enum Place {
     /// K, M or N.
@@ -14,6 +14,7 @@ pub enum Place {
     Node,
     /// The cycles still to wait, qifw.
     Wait,
+    Position,
     /// By its address.
     Code(usize),
     /// By its address.
@@ -29,6 +30,7 @@ impl fmt::Display for Place {
             Place::Register(number) => f.write_str(REGISTERS[number]),
             Place::Node => f.write_str("node"),
             Place::Wait => f.write_str("wait"),
+            Place::Position => f.write_str("position"),
             Place::Code(address) => write!(f, "code word {address}"),
             Place::Data(address) => write!(f, "data word {address}"),
             Place::Table(index) => {
@@ -39,15 +41,16 @@ impl fmt::Display for Place {
     }
 }
 
-/// A place with the word that should be there and the one that is; none beyond a state's size.
+/// A place with the number that should be there and the one that is; none beyond a state's size. A
+/// word is a number that is not negative.
 #[derive(Clone, Copy, Debug, PartialEq)]
 pub struct Difference {
     pub place: Place,
-    pub expected: Option<u32>,
-    pub found: Option<u32>,
+    pub expected: Option<i64>,
+    pub found: Option<i64>,
 }
 
-/// Every place where the states differ: sizes, registers, node and wait, memory, table.
+/// Every place where the states differ: sizes, registers, node, wait and position, memory, table.
 pub fn differences(expected: &Machine, found: &Machine) -> Vec<Difference> {
     let (e, f) = (&expected.record, &found.record);
     let mut list = Vec::new();
@@ -56,6 +59,7 @@ pub fn differences(expected: &Machine, found: &Machine) -> Vec<Difference> {
     compare(&mut list, Place::Register, &e.regs, &f.regs);
     compare(&mut list, |_| Place::Node, &[e.qifv], &[f.qifv]);
     compare(&mut list, |_| Place::Wait, &[e.qifw], &[f.qifw]);
+    compare(&mut list, |_| Place::Position, &[e.position], &[f.position]);
     let memory = |address| memory_place(expected, found, address);
     compare(&mut list, memory, &expected.mem, &found.mem);
     compare(&mut list, Place::Table, &expected.table, &found.table);
@@ -76,14 +80,15 @@ fn memory_place(expected: &Machine, found: &Machine, address: usize) -> Place {
     }
 }
 
-fn compare(
+fn compare<T: Copy + Into<i64>>(
     list: &mut Vec<Difference>,
     place: impl Fn(usize) -> Place,
-    expected: &[u32],
-    found: &[u32],
+    expected: &[T],
+    found: &[T],
 ) {
+    let number = |list: &[T], index: usize| list.get(index).map(|number| (*number).into());
     for index in 0..expected.len().max(found.len()) {
-        let (expected, found) = (expected.get(index).copied(), found.get(index).copied());
+        let (expected, found) = (number(expected, index), number(found, index));
         if expected != found {
             let place = place(index);
             list.push(Difference {
@@ -114,6 +119,7 @@ pub fn not_zero(machine: &Machine) -> Vec<Difference> {
         vec![0; machine.table.len()],
     );
     let mut list = differences(&zeros, machine);
-    list.retain(|d| !matches!(d.place, Place::Code(_) | Place::Table(_)));
+    let left_out = |place| matches!(place, Place::Position | Place::Code(_) | Place::Table(_));
+    list.retain(|d| !left_out(d.place));
     list
 }

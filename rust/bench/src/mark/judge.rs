@@ -1,7 +1,8 @@
 //! What is found out about one hand-in.
 
-use super::counts::Net;
-use super::differences::{differences, left_changed, Difference};
+use super::counts::Due;
+use super::differences::{differences, left_changed, Difference, Place};
+use crate::exercise::Exercise;
 use crank::{Direction, Machine, Made};
 
 /// The most turns that a hand-in is run on to see where its code leads.
@@ -10,9 +11,9 @@ pub const MAX_ON: u64 = 1_000_000;
 /// The turns between two looks at how far it is.
 const CHUNK: u64 = 10_000_000;
 
-/// A hand-in turned by its net count.
+/// A hand-in turned back to where it began.
 pub struct Judged {
-    pub net: Net,
+    pub due: Due,
     /// The turns up to the first refused one.
     pub made: Made,
     /// The state after these.
@@ -25,12 +26,12 @@ pub struct Judged {
 impl Judged {
     /// Turns the hand-in; `watch` is told of the turns made, now and then.
     pub fn new(
-        hand_in: Machine,
-        net: Net,
+        hand_in: &Exercise,
+        due: Due,
         beginning: Option<&Machine>,
         mut watch: impl FnMut(u64),
     ) -> Judged {
-        let mut turned = hand_in;
+        let (mut turned, net) = (hand_in.machine.clone(), due.net);
         let (mut turns, mut refusal) = (0, 0);
         while refusal == 0 && turns < net.turns {
             let more = turned.turns(net.direction, CHUNK.min(net.turns - turns));
@@ -38,12 +39,17 @@ impl Judged {
             refusal = more.refusal;
             watch(turns);
         }
-        let made = Made { turns, refusal };
+        // Where the hand-in has no position, none can differ.
+        let can_differ = |d: &Difference| hand_in.has_position || d.place != Place::Position;
+        let differences = beginning.map(|beginning| {
+            let all = differences(beginning, &turned).into_iter();
+            all.filter(can_differ).collect()
+        });
         Judged {
-            net,
-            made,
+            due,
+            made: Made { turns, refusal },
             at_start: turned.at_start(),
-            differences: beginning.map(|beginning| differences(beginning, &turned)),
+            differences,
             turned,
         }
     }

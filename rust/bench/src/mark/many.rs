@@ -1,6 +1,7 @@
 //! The hand-ins of a list, a line for each in the list's order.
 
 use super::cores;
+use super::counts::Due;
 use super::judge::{Judged, Stand};
 use super::list::{self, Entry, HandIn};
 use super::report;
@@ -71,14 +72,18 @@ fn mark_entry(entry: &Entry, beginning: Option<&Machine>) -> Marked {
         ),
         Err(no) => (format!("line {}", no.line), Err(no.fault.clone())),
     };
-    let (verdict, said) = match judged {
+    let (verdict, mut said) = match &judged {
         Ok((judged, stand)) if judged.fits() => {
-            let (verdict, stands) = (report::verdict(&judged), stands(&stand));
+            let (verdict, stands) = (report::verdict(judged), stands(stand));
             (Verdict::Fits, format!("{verdict}; {stands}"))
         }
-        Ok((judged, _)) => (Verdict::DoesNotFit, short(&judged)),
+        Ok((judged, _)) => (Verdict::DoesNotFit, short(judged)),
         Err(fault) => (Verdict::NotMarked, format!("cannot be marked: {fault}")),
     };
+    let due = judged.as_ref().ok().map(|(judged, _)| &judged.due);
+    if let Some(more) = due.and_then(report::disagreement) {
+        said += &format!("; {more}");
+    }
     Marked {
         verdict,
         line: format!("{name}: {said}"),
@@ -86,22 +91,20 @@ fn mark_entry(entry: &Entry, beginning: Option<&Machine>) -> Marked {
 }
 
 fn judge(hand_in: &HandIn, beginning: Option<&Machine>) -> Result<(Judged, Stand), String> {
-    let turns = hand_in.net.turns;
+    let exercise = Exercise::open(&hand_in.path).map_err(|fault| {
+        // The line has the name as it is in the list, in place of the path.
+        let path = format!("{}: ", files::shown(&hand_in.path));
+        fault.strip_prefix(&path).unwrap_or(&fault).to_string()
+    })?;
+    let due = Due::new(&exercise, hand_in.counts, beginning)?;
+    let turns = due.net.turns;
     if turns > MAX_TURNS {
         return Err(format!(
             "net count {turns} is more than the {MAX_TURNS} that a list turns"
         ));
     }
-    let machine = match Exercise::open(&hand_in.path) {
-        Ok(exercise) => exercise.machine,
-        Err(fault) => {
-            // The line has the name as it is in the list, in place of the path.
-            let path = format!("{}: ", files::shown(&hand_in.path));
-            return Err(fault.strip_prefix(&path).unwrap_or(&fault).to_string());
-        }
-    };
-    let judged = Judged::new(machine.clone(), hand_in.net, beginning, |_| {});
-    let stand = Stand::new(&machine, &judged);
+    let judged = Judged::new(&exercise, due, beginning, |_| {});
+    let stand = Stand::new(&exercise.machine, &judged);
     Ok((judged, stand))
 }
 

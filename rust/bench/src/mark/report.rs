@@ -1,5 +1,6 @@
 //! What is found out, in words.
 
+use super::counts::{Due, Net};
 use super::differences::{not_zero, Difference, Place};
 use super::judge::{Ending, Judged, MAX_ON};
 use crate::words::{code_word, counted, way, word};
@@ -11,6 +12,9 @@ const WIDTH: usize = 80;
 
 /// The whole report on one hand-in.
 pub fn single(out: &mut impl Write, judged: &Judged, ending: &Ending) -> io::Result<()> {
+    if let Some(line) = disagreement(&judged.due) {
+        writeln!(out, "{line}")?;
+    }
     writeln!(out, "{}", turns(judged))?;
     let stands = if judged.at_start {
         "stands"
@@ -33,9 +37,23 @@ pub fn single(out: &mut impl Write, judged: &Judged, ending: &Ending) -> io::Res
     }
 }
 
+/// What position and counts say, where that is not the same.
+pub fn disagreement(due: &Due) -> Option<String> {
+    let position = due.by_position?;
+    let said = |net: Net| format!("{} {}", counted(net.turns, "turn"), way(net.direction).0);
+    let counts = match due.net.direction == position.direction {
+        true => due.net.turns.to_string(),
+        false => said(due.net),
+    };
+    let position = said(position);
+    Some(format!(
+        "position and counts disagree: by the position {position}, by the counts {counts}"
+    ))
+}
+
 /// What became of the turns.
 pub fn turns(judged: &Judged) -> String {
-    let net = judged.net;
+    let net = judged.due.net;
     let (way, call) = way(net.direction);
     match judged.made.refusal {
         0 if net.turns == 0 => "no turn to make: as many forward as back".to_string(),
@@ -61,11 +79,12 @@ pub fn verdict(judged: &Judged) -> &'static str {
 
 /// A place, with what should be there and what is.
 pub fn difference(d: &Difference) -> String {
-    let shown = match d.place {
-        Place::Code(_) => code_word,
-        _ => word,
+    let shown = |value: i64| match d.place {
+        Place::Code(_) => code_word(value as u32),
+        Place::Position => value.to_string(),
+        _ => word(value as u32),
     };
-    let value = |value: Option<u32>| value.map_or("none".to_string(), shown);
+    let value = |value: Option<i64>| value.map_or("none".to_string(), shown);
     let (expected, found) = (value(d.expected), value(d.found));
     format!("{} expected {expected}, found {found}", d.place)
 }
@@ -98,11 +117,11 @@ fn reason(judged: &Judged) -> String {
 }
 
 fn found(d: &Difference) -> String {
-    format!("{} = {}", d.place, word(d.found.unwrap_or_default()))
+    format!("{} = {}", d.place, word(d.found.unwrap_or_default() as u32))
 }
 
 fn change(d: &Difference) -> String {
-    let value = |value: Option<u32>| word(value.unwrap_or_default());
+    let value = |value: Option<i64>| word(value.unwrap_or_default() as u32);
     format!("{} {} -> {}", d.place, value(d.expected), value(d.found))
 }
 

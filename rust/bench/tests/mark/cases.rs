@@ -1,26 +1,36 @@
 //! Whole reports on hand-ins of the examples.
 
 use crate::scratch::{example, examples, Folder, Ran};
-use crank::{Direction, Machine};
+use crank::{Direction, Kind, Machine};
 
 /// The example after some turns.
-fn after(name: &str, turns: u64) -> Machine {
+pub fn after(name: &str, turns: u64) -> Machine {
     let mut machine = example(name);
     let made = machine.turns(Direction::Forward, turns);
     assert_eq!((made.turns, made.refusal), (turns, 0));
     machine
 }
 
-/// Marks the hand-in, against the example of this name if one is given.
+/// Marks the hand-in, against the example of this name if one is given. It has no position; where its
+/// counts are right, one with a position gives the same report, with and without counts.
 fn mark(hand_in: &Machine, forward: u64, back: u64, from: Option<&str>) -> Ran {
     let folder = Folder::new(&format!("case-{:?}", std::thread::current().id()));
-    folder.write("out.img", hand_in.save().expect("an image"));
-    let mut arguments = vec!["out.img".into(), forward.to_string(), back.to_string()];
-    if let Some(name) = from {
-        let path = examples().join(name);
-        arguments.extend(["--from".into(), path.display().to_string()]);
+    let image = |kind| hand_in.save_as(kind).expect("an image");
+    folder.write("old.img", image(Kind::One));
+    folder.write("new.img", image(Kind::Two));
+    let from = from.map(|name| ["--from".into(), examples().join(name).display().to_string()]);
+    let from: Vec<String> = from.into_iter().flatten().collect();
+    let counts = [forward.to_string(), back.to_string()];
+    let report = folder.mark(&[&["old.img".into()], &counts[..], &from].concat());
+    if i128::from(hand_in.record.position) == i128::from(forward) - i128::from(back) {
+        let new = folder.mark(&[&["new.img".into()], &counts[..], &from].concat());
+        assert_eq!(new, report);
+        assert_eq!(
+            folder.mark(&[&["new.img".into()], &from[..]].concat()),
+            report
+        );
     }
-    folder.mark(&arguments)
+    report
 }
 
 #[test]

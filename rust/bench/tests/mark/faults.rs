@@ -1,6 +1,7 @@
 //! Bad input: one line on standard error, status 2, and never a crash.
 
 use crate::scratch::{example, Folder, Ran};
+use crank::Kind;
 use std::ffi::OsString;
 use std::process::Stdio;
 
@@ -8,7 +9,9 @@ const SEE: &str = "; see bench mark --help";
 
 fn folder(name: &str) -> Folder {
     let folder = Folder::new(name);
-    folder.write("a.img", example("loop").save().expect("an image"));
+    let image = |kind| example("loop").save_as(kind).expect("an image");
+    folder.write("a.img", image(Kind::Two));
+    folder.write("old.img", image(Kind::One));
     folder.write("empty", "");
     folder.write("list", "a.img 0 0\n");
     folder.write("no list", "# none\n\n  \r\n");
@@ -19,14 +22,13 @@ fn folder(name: &str) -> Folder {
 #[test]
 fn arguments() {
     let folder = folder("arguments");
-    let needed = "HAND-IN FORWARD BACK or --list LIST is needed";
-    let cases: [(&[&str], String); 17] = [
+    let needed = "HAND-IN, HAND-IN FORWARD BACK or --list LIST is needed";
+    let cases: [(&[&str], String); 16] = [
         (&[], format!("{needed}{SEE}")),
-        (&["a.img"], format!("{needed}{SEE}")),
         (&["a.img", "1"], format!("{needed}{SEE}")),
         (&["a.img", "1", "2", "3"], format!("{needed}{SEE}")),
         (&["--from", "a.img"], format!("{needed}{SEE}")),
-        (&["--", "--help"], format!("{needed}{SEE}")),
+        (&["--"], format!("{needed}{SEE}")),
         (&["a.img", "1", "-2"], format!("no option -2{SEE}")),
         (&["--form", "x"], format!("no option --form{SEE}")),
         (&["--from"], format!("--from BEGINNING lacks its name{SEE}")),
@@ -62,14 +64,17 @@ fn not_a_count(text: &str) -> String {
 fn files() {
     let folder = folder("files");
     let missing = "No such file or directory";
-    let cases: [(&[&str], String); 8] = [
+    let no_position = "has no position, so two counts are needed";
+    let short = "the file is shorter than the trailer of an image or longer than 65536 bytes";
+    let cases: [(&[&str], String); 10] = [
         (&["b.img", "0", "0"], format!("b.img: {missing}")),
+        (&["--", "--help"], format!("--help: {missing}")),
         (&[".", "0", "0"], ".: Is a directory".to_string()),
         (
             &["empty", "0", "0"],
-            "empty: refused by 1: the file is shorter than 92 bytes or longer than 65536"
-                .to_string(),
+            format!("empty: refused by 1: {short}"),
         ),
+        (&["old.img"], format!("old.img: {no_position}")),
         (
             &["a.img", "0", "0", "--from", "b.img"],
             format!("b.img: {missing}"),
@@ -150,7 +155,8 @@ fn signs_of_a_terminal() {
 fn help() {
     let ran = Folder::new("help").mark(&["a", "b", "--help"]);
     assert_eq!((ran.status, &ran.err[..]), (0, ""));
-    assert!(ran.out.starts_with("bench mark HAND-IN FORWARD BACK"));
+    let first = "bench mark HAND-IN [FORWARD BACK] [--from BEGINNING]\n";
+    assert!(ran.out.starts_with(first));
 }
 
 /// Standard output that takes nothing: a full disk, a pipe that is closed.
@@ -160,7 +166,8 @@ fn output() {
     let long: String = "a.img 0 0\n".repeat(5_000);
     folder.write("long list", long);
     for arguments in [
-        &["a.img", "0", "0"][..],
+        &["a.img"][..],
+        &["a.img", "0", "0"],
         &["--list", "list"],
         &["--list", "long list"],
         &["--help"],

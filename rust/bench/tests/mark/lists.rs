@@ -1,7 +1,7 @@
-//! Lists of hand-ins: a line for each in its order, and a summary.
+//! Lists of hand-ins without a position: a line for each in its order, and a summary.
 
 use crate::scratch::{example, examples, Folder, Ran};
-use crank::{Direction, Machine};
+use crank::{Direction, Kind, Machine};
 
 /// The hand-ins: the loop after 7 turns, and spoilt in one way each.
 fn hand_ins(folder: &Folder) {
@@ -10,7 +10,7 @@ fn hand_ins(folder: &Folder) {
     let write = |name: &str, spoil: fn(&mut Machine)| {
         let mut machine = hand_in.clone();
         spoil(&mut machine);
-        folder.write(name, machine.save().expect("an image"));
+        folder.write(name, machine.save_as(Kind::One).expect("an image"));
     };
     write("right.img", |_| {});
     write("group 4, exercise 3.img", |_| {});
@@ -35,7 +35,7 @@ fn hand_ins(folder: &Folder) {
         m.record.n += 1;
         m.table.extend([0; 9]);
     });
-    let image = hand_in.save().expect("an image");
+    let image = hand_in.save_as(Kind::One).expect("an image");
     folder.write("preface.img", [b"by hand", &image[..]].concat());
     folder.write("cut.img", &image[9..]);
     folder.write("more.img", [&image[..], b"\n"].concat());
@@ -143,7 +143,7 @@ const LINES: [(&str, &str); 39] = [
     (
         "short.img 7 0",
         "short.img: cannot be marked: refused by 1: \
-         the file is shorter than 92 bytes or longer than 65536",
+         the file is shorter than the trailer of an image or longer than 65536 bytes",
     ),
     (
         "more.img 7 0",
@@ -229,7 +229,7 @@ fn statuses() {
             "no.img: cannot be marked: No such file or directory\n1".to_string(),
         ),
         (
-            "no".to_string(),
+            "7 7".to_string(),
             1,
             "line 1: cannot be marked: a name and two counts are needed\n".to_string(),
         ),

@@ -4,6 +4,8 @@ mod cases;
 mod expected;
 mod faults;
 mod lists;
+mod names;
+mod position;
 mod right;
 mod running;
 mod scratch;

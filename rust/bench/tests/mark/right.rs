@@ -1,8 +1,8 @@
 //! Right hand-ins fit.
 
-use crate::scratch::Folder;
-use crate::students::{beginning, exercises, file, play, Counts};
-use crank::Machine;
+use crate::scratch::{Folder, Ran};
+use crate::students::{beginning, exercises, file, kind, play, Counts};
+use crank::{Kind, Machine};
 use crank_model::rng::{rounds, Rng};
 
 /// What the hand-ins were like.
@@ -13,6 +13,8 @@ struct Seen {
     net_none: u32,
     refused: u32,
     larger_counts: u32,
+    by_position: u32,
+    from_a_position: u32,
 }
 
 impl Seen {
@@ -36,11 +38,12 @@ fn turns_line(counts: Counts) -> String {
 }
 
 fn mark(folder: &Folder, rng: &mut Rng, exercise: &Machine, seen: &mut Seen) {
-    let beginning = beginning(rng, exercise);
+    let (beginning, given) = beginning(rng, exercise);
     let mut hand_in = beginning.clone();
     let counts = play(rng, &mut hand_in);
-    folder.write("exercise.img", file(rng, &beginning));
-    folder.write("hand-in.img", file(rng, &hand_in));
+    let kind = kind(rng);
+    folder.write("exercise.img", given);
+    folder.write("hand-in.img", file(rng, kind, &hand_in));
     // As many more of both come to the same.
     let more = rng.pick(&[0, 0, 1, 1 << 40, u64::MAX - counts.forward.max(counts.back)]);
     let forward = (counts.forward + more).to_string();
@@ -51,6 +54,19 @@ fn mark(folder: &Folder, rng: &mut Rng, exercise: &Machine, seen: &mut Seen) {
     assert_eq!((lines[0], lines[2]), (&turns_line(counts)[..], "fits"));
     assert_eq!(lines[1] == "stands at start", beginning.at_start());
     seen.count(counts, more);
+    by_position(folder, kind, ran);
+    seen.by_position += u32::from(kind == Kind::Two);
+    seen.from_a_position += u32::from(beginning.record.position != 0);
+}
+
+/// Without counts the position says the same, if there is one.
+fn by_position(folder: &Folder, kind: Kind, ran: Ran) {
+    let alone = folder.mark(&["hand-in.img", "--from", "exercise.img"]);
+    let due = match kind {
+        Kind::One => Ran::fault("hand-in.img: has no position, so two counts are needed"),
+        Kind::Two => ran,
+    };
+    assert_eq!(alone, due);
 }
 
 #[test]
@@ -76,6 +92,8 @@ fn right_hand_ins() {
         seen.net_none,
         seen.refused,
         seen.larger_counts,
+        seen.by_position,
+        seen.from_a_position,
     ] {
         assert!(count > 0, "{seen:?}");
     }

@@ -1,7 +1,7 @@
 //! Exercises as they are given out, and students who turn them to and fro.
 
 use crate::scratch::all_examples;
-use crank::{Direction, Machine, Record};
+use crank::{Direction, Kind, Machine, Record};
 use crank_model::rng::Rng;
 use crank_model::structured;
 
@@ -31,6 +31,7 @@ fn generated_exercise(rng: &mut Rng) -> Machine {
         k: r.k,
         m: r.m,
         n: r.n,
+        position: r.position,
     };
     Machine {
         record,
@@ -39,14 +40,26 @@ fn generated_exercise(rng: &mut Rng) -> Machine {
     }
 }
 
-/// The exercise as it is given out: at start, or in the middle of its run.
-pub fn beginning(rng: &mut Rng, exercise: &Machine) -> Machine {
+/// The exercise as it is given out, at start or in the middle of its run and at any position, and the
+/// file that it is given out in.
+pub fn beginning(rng: &mut Rng, exercise: &Machine) -> (Machine, Vec<u8>) {
     let mut beginning = exercise.clone();
     if rng.chance(1, 2) {
         let turns = rng.below(100);
         beginning.turns(Direction::Forward, turns.into());
     }
-    beginning
+    if rng.chance(1, 2) {
+        let any = rng.next_u64() as i64;
+        beginning.record.position = rng.pick(&[-7, i64::MIN, i64::MAX, i64::MAX - 20, any]);
+    }
+    let kind = kind(rng);
+    let file = file(rng, kind, &beginning);
+    // As it is opened: one of kind 1 has no position any more.
+    (Machine::load(&file).expect("an image"), file)
+}
+
+pub fn kind(rng: &mut Rng) -> Kind {
+    rng.pick(&[Kind::One, Kind::Two])
 }
 
 /// Turns the machine to and fro by single turns and batches.
@@ -72,8 +85,8 @@ pub fn play(rng: &mut Rng, machine: &mut Machine) -> Counts {
 }
 
 /// The image, now and then behind a preface.
-pub fn file(rng: &mut Rng, machine: &Machine) -> Vec<u8> {
+pub fn file(rng: &mut Rng, kind: Kind, machine: &Machine) -> Vec<u8> {
     let preface = rng.pick(&[0, 0, 1, 300]);
-    let image = machine.save().expect("its sizes are in order");
+    let image = machine.save_as(kind).expect("its sizes are in order");
     [rng.bytes(preface), image].concat()
 }

@@ -1,9 +1,9 @@
 //! Wrong hand-ins: every kind is told, as refused on the way or as differing at the end.
 
-use crate::expected;
+use crate::expected::Expected;
 use crate::scratch::{example, Folder, Ran};
-use crate::students::{beginning, exercises, file, play};
-use crank::Machine;
+use crate::students::{beginning, exercises, file, kind, play};
+use crank::{Kind as ImageKind, Machine};
 use crank_model::rng::{rounds, Rng};
 use std::collections::BTreeMap;
 
@@ -17,11 +17,12 @@ enum Kind {
     Code,
     Node,
     Wait,
+    Position,
     Table,
     Sizes,
 }
 
-const KINDS: [Kind; 9] = [
+const KINDS: [Kind; 10] = [
     Kind::ForwardCount,
     Kind::BackCount,
     Kind::Register,
@@ -29,12 +30,14 @@ const KINDS: [Kind; 9] = [
     Kind::Code,
     Kind::Node,
     Kind::Wait,
+    Kind::Position,
     Kind::Table,
     Kind::Sizes,
 ];
 
 struct HandIn {
     machine: Machine,
+    image: ImageKind,
     forward: u64,
     back: u64,
 }
@@ -43,6 +46,7 @@ struct HandIn {
 fn spoil(rng: &mut Rng, kind: Kind, hand_in: &mut HandIn) -> bool {
     let HandIn {
         machine,
+        image,
         forward,
         back,
     } = hand_in;
@@ -54,6 +58,10 @@ fn spoil(rng: &mut Rng, kind: Kind, hand_in: &mut HandIn) -> bool {
         Kind::ForwardCount => return off_by_one(rng, forward),
         Kind::BackCount => return off_by_one(rng, back),
         Kind::Sizes => return other_sizes(rng, machine),
+        Kind::Position => {
+            *image = ImageKind::Two;
+            return other_position(rng, &mut machine.record.position);
+        }
         Kind::Register => Some(&mut machine.record.regs[rng.index(16)]),
         Kind::Node => Some(&mut machine.record.qifv),
         Kind::Wait => Some(&mut machine.record.qifw),
@@ -76,6 +84,14 @@ fn off_by_one(rng: &mut Rng, count: &mut u64) -> bool {
         *count -= 1;
     }
     true
+}
+
+/// Next to the right one, or at an end.
+fn other_position(rng: &mut Rng, position: &mut i64) -> bool {
+    let right = *position;
+    let (more, less) = (right.wrapping_add(1), right.wrapping_sub(1));
+    *position = rng.pick(&[more, less, i64::MIN, i64::MAX]);
+    *position != right
 }
 
 /// More or fewer words, nodes, or words that are code.
@@ -113,11 +129,19 @@ fn pieces(out: &str) -> (Vec<String>, Vec<String>) {
 fn mark(folder: &Folder, rng: &mut Rng, beginning: &Machine, hand_in: &HandIn) -> bool {
     let HandIn {
         machine,
+        image,
         forward,
         back,
     } = hand_in;
-    folder.write("exercise.img", file(rng, beginning));
-    folder.write("hand-in.img", file(rng, machine));
+    let bytes = file(rng, *image, machine);
+    let expected = Expected {
+        beginning,
+        hand_in: &Machine::load(&bytes).expect("an image"),
+        has_position: *image == ImageKind::Two,
+        forward: *forward,
+        back: *back,
+    };
+    folder.write("hand-in.img", bytes);
     let counts = [forward.to_string(), back.to_string()];
     let Ran { status, out, err } = folder.mark(&[
         "--from",
@@ -127,13 +151,10 @@ fn mark(folder: &Folder, rng: &mut Rng, beginning: &Machine, hand_in: &HandIn) -
         &counts[1],
     ]);
     assert_eq!((status, &err[..]), (1, ""), "{out}");
-    let turned = expected::turned(machine, *forward, *back);
     let (lines, differences) = pieces(&out);
-    assert_eq!(differences, expected::differences(beginning, &turned.state));
-    let mut whole = expected::head(beginning, machine, *forward, *back);
-    whole.extend(expected::tail(machine, *forward, *back));
-    assert_eq!(lines, whole);
-    turned.refusal != 0
+    assert_eq!(differences, expected.differences());
+    assert_eq!(lines, [expected.head(), expected.tail()].concat());
+    expected.turned().refusal != 0
 }
 
 #[test]
@@ -146,11 +167,13 @@ fn wrong_hand_ins() {
     exercises.extend(vec![example("mux"); 12]);
     for exercise in &exercises {
         for kind in KINDS.iter().cycle().take(6 * KINDS.len()) {
-            let beginning = beginning(&mut rng, exercise);
+            let (beginning, given) = beginning(&mut rng, exercise);
+            folder.write("exercise.img", given);
             let mut machine = beginning.clone();
             let counts = play(&mut rng, &mut machine);
             let mut hand_in = HandIn {
                 machine,
+                image: self::kind(&mut rng),
                 forward: counts.forward,
                 back: counts.back,
             };
