@@ -91,6 +91,7 @@ fn endless(body: &[u32], data: &[u32], table: Vec<u32>) -> Machine {
         k,
         m: mem.len() as u32,
         n: (table.len() / NODE) as u32,
+        position: 0,
     };
     Machine { record, mem, table }
 }

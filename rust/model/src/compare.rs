@@ -4,7 +4,7 @@ use std::fmt::{Arguments, Debug};
 use std::hint::black_box;
 
 use crate::cover::Cover;
-use crate::machine::Batch;
+use crate::machine::{Batch, Record};
 use crate::preview::{Preview, PreviewCall};
 use crate::rng::Rng;
 use crate::state::{BatchCall, Machine, Turn, Way};
@@ -31,6 +31,24 @@ fn same<A: Debug + PartialEq>(
     answer
 }
 
+/// The accepted turns forward and back, where all go one way.
+pub fn one_way(way: Way, turns: u32) -> [u64; 2] {
+    let mut accepted = [0; 2];
+    accepted[way as usize] = turns.into();
+    accepted
+}
+
+/// Checks that the position went on by the accepted turns, one more for each
+/// forward and one less for each back.
+pub fn adds_up(before: &Record, after: &Record, [forward, back]: [u64; 2]) {
+    let expected = i128::from(before.position) + i128::from(forward) - i128::from(back);
+    let found = i128::from(after.position);
+    assert_eq!(
+        found, expected,
+        "position after {forward} forward and {back} back, from {before:?}"
+    );
+}
+
 /// A single turn of the library and of the model.
 pub fn same_turn(way: Way, machine: &mut Machine, turn: Turn, cover: &mut Cover) -> u32 {
     let old = machine.record;
@@ -41,27 +59,35 @@ pub fn same_turn(way: Way, machine: &mut Machine, turn: Turn, cover: &mut Cover)
         |m| m.turn(turn),
     );
     cover.turn(way, &old, refusal, machine);
+    let accepted = one_way(way, u32::from(refusal == 0));
+    adds_up(&old, &machine.record, accepted);
     refusal
 }
 
 /// A batch of the library and of the model.
 pub fn same_batch(way: Way, machine: &mut Machine, n: u32, call: BatchCall) -> Batch {
-    same(
+    let old = machine.record;
+    let batch = same(
         format_args!("{way:?} batch of {n}"),
         machine,
         |m| m.batch(n, way.model_batch()),
         |m| m.batch(n, call),
-    )
+    );
+    adds_up(&old, &machine.record, one_way(way, batch.turns));
+    batch
 }
 
 /// A sample call of the library and of the model.
 pub fn same_samples(machine: &mut Machine, given: u8, samples: &[u8], call: SampleCall) -> Wheeled {
-    same(
+    let old = machine.record;
+    let answer = same(
         format_args!("{samples:?} after {given}"),
         machine,
         |m| m.samples(given, samples, wheel::samples),
         |m| m.samples(given, samples, call),
-    )
+    );
+    adds_up(&old, &machine.record, [answer.forward, answer.back]);
+    answer
 }
 
 /// Compares a preview with the model's, field by field, and checks that all
@@ -73,6 +99,8 @@ pub fn same_preview(way: Way, machine: &Machine, call: PreviewCall) -> Preview {
     assert_eq!(*black_box(machine), before, "{way:?} preview writes");
     let expected = machine.preview(way.model_preview());
     assert_eq!(found, expected, "{way:?} preview of {machine:?}");
+    let accepted = one_way(way, u32::from(found.refusal == 0));
+    adds_up(&machine.record, &found.record, accepted);
     found
 }
 
@@ -149,16 +177,22 @@ pub fn turn_by_turn(
     cover: &mut Cover,
 ) -> [u64; 3] {
     let mut counts = [0; 3];
-    let mut goes_on = false;
+    let (mut goes_on, mut at_end, mut leaves_end) = (false, false, false);
     for way in steps(given, samples).into_iter().flatten() {
         let old = machine.record;
         let refusal = machine.turn(turns[way as usize]);
         cover.turn(way, &old, refusal, machine);
         counts[if refusal == 0 { way as usize } else { 2 }] += 1;
+        at_end |= refusal == 21;
         goes_on |= refusal == 0 && counts[2] > 0;
+        leaves_end |= refusal == 0 && at_end;
     }
-    if goes_on {
-        cover.count("accepted after a refused turn");
+    let cases = [
+        (goes_on, "accepted after a refused turn"),
+        (leaves_end, "accepted after a 21"),
+    ];
+    for (_, name) in cases.iter().filter(|(met, _)| *met) {
+        cover.count(name);
     }
     counts
 }

@@ -7,7 +7,7 @@ use crate::state::{Machine, Way, WAYS};
 
 /// Refusals told apart: with qifw 0 and waiting, and the two kinds of 14,
 /// of which the first is also counted at a finish.
-const REFUSALS: [&str; 17] = [
+const REFUSALS: [&str; 19] = [
     "10",
     "11",
     "11 waiting",
@@ -25,6 +25,8 @@ const REFUSALS: [&str; 17] = [
     "17 waiting",
     "18",
     "18 waiting",
+    "21",
+    "21 waiting",
 ];
 
 /// Whether a kind of refusal can occur in a direction.
@@ -35,12 +37,17 @@ fn reachable(way: Way, name: &str) -> bool {
     }
 }
 
-const EVENTS: [&str; 5] = [
+/// What accepted turns come by; the last four are about the position.
+const EVENTS: [&str; 9] = [
     "wait entered",
     "wait continued",
     "wait ended",
     "nested qif",
     "jump",
+    "to the last position",
+    "from the first position",
+    "from below 0",
+    "high word changed",
 ];
 
 #[derive(Clone, Debug, Default)]
@@ -77,6 +84,7 @@ fn refusal_index(refusal: u32, waits: bool, word: Option<u32>) -> usize {
         14 => 7 + usize::from(word == Some(FINISH)),
         15 => 10,
         16..=18 => 2 * (refusal as usize - 16) + 11 + waiting,
+        21 => 17 + waiting,
         _ => 0,
     }
 }
@@ -108,6 +116,11 @@ impl Cover {
         counts.events[1] += u64::from(waited && waits);
         counts.events[2] += u64::from(waited && !waits);
         counts.events[4] += u64::from(after.regs[BR] != 0);
+        let (from, to) = (old.position, after.position);
+        counts.events[5] += u64::from(to == way.last_position());
+        counts.events[6] += u64::from(from == way.reverse().last_position());
+        counts.events[7] += u64::from(from < 0);
+        counts.events[8] += u64::from(from >> 32 != to >> 32);
         if KINDS[kind].0 == 24 {
             let inner = depth(&machine.table, after.n, after.qifv);
             counts.events[3] += u64::from(inner.is_some_and(|d| d > 1));

@@ -3,6 +3,7 @@
 use crate::instruction::Instruction::{Fiq, Qif};
 use crate::instruction::{decode, BR, FINISH, PC, START};
 use crate::machine::{MAX_M, MAX_N, NODE};
+use crate::positions::near_end;
 use crate::rng::Rng;
 use crate::state::Machine;
 use crate::words::EXTREMES;
@@ -100,10 +101,18 @@ fn damage_wait(rng: &mut Rng, machine: &mut Machine) {
     }
 }
 
+/// Sets the position to another one, mostly at an end or next to it.
+fn damage_position(rng: &mut Rng, machine: &mut Machine) {
+    let position = machine.record.position;
+    let noise = rng.next_u64() as i64;
+    let end = near_end(rng, 3);
+    machine.record.position = rng.pick(&[end, end, noise, !position]);
+}
+
 type Damage = fn(&mut Rng, &mut Machine);
 
-/// The kinds of damage, by name, and how many of ten are of each.
-pub const DAMAGES: [(&str, Damage, usize); 7] = [
+/// The kinds of damage, by name, and how many of eleven are of each.
+pub const DAMAGES: [(&str, Damage, usize); 8] = [
     ("damaged size", damage_size, 1),
     ("damaged link", damage_link, 2),
     ("damaged code", damage_code, 1),
@@ -111,6 +120,7 @@ pub const DAMAGES: [(&str, Damage, usize); 7] = [
     ("damaged register", damage_register, 1),
     ("damaged coin", damage_coin, 1),
     ("damaged wait", damage_wait, 2),
+    ("damaged position", damage_position, 1),
 ];
 
 /// Damages one field of the machine.

@@ -5,6 +5,7 @@ use crate::instruction::Instruction::*;
 use crate::instruction::{decode, BR, FINISH, KINDS, PC, START};
 use crate::machine::{Record, CF, CL, FC, LC, NODE, PR, W};
 use crate::nodes::random_table;
+use crate::positions;
 use crate::rng::Rng;
 use crate::state::{Machine, Way};
 use crate::structured;
@@ -63,6 +64,7 @@ pub fn valid(rng: &mut Rng) -> Machine {
         k,
         m,
         n,
+        position: positions::any(rng),
     };
     let mut machine = Machine { record, mem, table };
     machine.lend_excess(rng);
@@ -164,6 +166,7 @@ pub fn noise(rng: &mut Rng) -> Machine {
         k: rng.word(),
         m: rng.word(),
         n: rng.word(),
+        position: positions::any(rng),
     };
     if rng.chance(7, 8) {
         record.m = rng.between(0, mem_len as u32);
@@ -194,15 +197,27 @@ pub fn for_turn(rng: &mut Rng, way: Way) -> Machine {
     machine
 }
 
+/// Leaves the position or sets it to any other, in many cases so near an end
+/// that a run comes to it.
+fn place(rng: &mut Rng, machine: &mut Machine) {
+    match rng.below(4) {
+        0 => machine.record.position = positions::near_end(rng, 300),
+        1 => machine.record.position = positions::any(rng),
+        _ => {}
+    }
+}
+
 /// A machine for many turns, in the middle of its run.
 pub fn for_run(rng: &mut Rng, way: Way) -> Machine {
-    match rng.below(10) {
-        0 | 1 => for_turn(rng, way),
-        2 | 3 => {
-            let mut machine = structured::running(rng, 400);
-            damage(rng, &mut machine);
-            machine
-        }
-        _ => structured::running(rng, 2_000),
+    let kind = rng.below(10);
+    if kind < 2 {
+        return for_turn(rng, way);
     }
+    let turns = if kind < 4 { 400 } else { 2_000 };
+    let mut machine = structured::running(rng, turns);
+    place(rng, &mut machine);
+    if kind < 4 {
+        damage(rng, &mut machine);
+    }
+    machine
 }

@@ -3,13 +3,70 @@
 use crate::instruction::decode;
 use crate::machine::{link, sizes_fit, sizes_in_range, Record, CF, CL, FC, LC, NODE, NX, PR};
 
+/// The bytes of the shortest trailer.
 pub const TRAILER: usize = 92;
 pub const MAX_FILE: usize = 65_536;
-pub const MARK: [u8; 4] = [0x51, 0x52, 0x4D, 0x31];
 
-/// The bytes from the first memory byte to the end of the file.
-pub fn back_length(m: u32, n: u32) -> u64 {
-    4 * u64::from(m) + 36 * u64::from(n) + TRAILER as u64
+/// The words of a trailer that every kind begins with: back, M, K, N,
+/// registers 0 to 15, qifv and qifw.
+const COMMON: usize = 22;
+
+/// A kind of image: its last four bytes, and how many words stand between them
+/// and what every kind begins with.
+#[derive(Clone, Copy, Debug, PartialEq, Eq)]
+pub struct Kind {
+    pub mark: [u8; 4],
+    pub more: usize,
+}
+
+/// The kinds that load takes. The second has the position, low word first.
+pub const KINDS: [Kind; 2] = [
+    Kind {
+        mark: [0x51, 0x52, 0x4D, 0x31],
+        more: 0,
+    },
+    Kind {
+        mark: [0x51, 0x52, 0x4D, 0x32],
+        more: 2,
+    },
+];
+
+/// The kind that save writes.
+pub const SAVED: Kind = KINDS[1];
+
+impl Kind {
+    /// The bytes of its trailer.
+    pub fn trailer(self) -> usize {
+        4 * (COMMON + self.more + 1)
+    }
+
+    /// The bytes from the first memory byte to the end of the file.
+    pub fn back_length(self, m: u32, n: u32) -> u64 {
+        4 * u64::from(m) + 36 * u64::from(n) + self.trailer() as u64
+    }
+
+    /// The image of a state whose sizes fit, without preface.
+    pub fn image(self, r: &Record, mem: &[u32], table: &[u32]) -> Vec<u8> {
+        let mut words = mem[..r.m as usize].to_vec();
+        words.extend(&table[..NODE * r.n as usize]);
+        words.extend([self.back_length(r.m, r.n) as u32, r.m, r.k, r.n]);
+        words.extend(r.regs);
+        words.extend([r.qifv, r.qifw]);
+        words.extend(&position_words(r.position)[..self.more]);
+        let mut bytes: Vec<u8> = words.iter().flat_map(|word| word.to_le_bytes()).collect();
+        bytes.extend(self.mark);
+        bytes
+    }
+}
+
+/// A position as two words, low first.
+fn position_words(position: i64) -> [u32; 2] {
+    [position as u32, (position >> 32) as u32]
+}
+
+/// Every two words are a position.
+fn position_of([low, high]: [u32; 2]) -> i64 {
+    ((u64::from(high) << 32) | u64::from(low)) as i64
 }
 
 /// Word `index` of a stretch of little-endian bytes.
@@ -18,44 +75,46 @@ fn word_at(bytes: &[u8], index: usize) -> u32 {
     u32::from_le_bytes([bytes[at], bytes[at + 1], bytes[at + 2], bytes[at + 3]])
 }
 
-fn put_words(out: &mut [u8], words: &[u32]) {
-    for (place, word) in out.chunks_exact_mut(4).zip(words) {
-        place.copy_from_slice(&word.to_le_bytes());
+/// The kind and the trailer of a file, or the refusal 1 or 2. The kind is known
+/// only by the end, so a file too short for its kind is refused behind 2.
+fn find_trailer(file: &[u8]) -> Result<(Kind, &[u8]), u32> {
+    if file.len() < TRAILER || file.len() > MAX_FILE {
+        return Err(1);
     }
+    let ends_so = |kind: &&Kind| file.ends_with(&kind.mark);
+    let kind = *KINDS.iter().find(ends_so).ok_or(2u32)?;
+    let start = file.len().checked_sub(kind.trailer()).ok_or(1u32)?;
+    Ok((kind, &file[start..]))
 }
 
 /// The record in the trailer and the place of the first memory byte, or the
 /// refusal 1 to 5.
 fn read_trailer(file: &[u8]) -> Result<(Record, usize), u32> {
-    if file.len() < TRAILER || file.len() > MAX_FILE {
-        return Err(1);
-    }
-    let trailer = &file[file.len() - TRAILER..];
-    if trailer[TRAILER - 4..] != MARK {
-        return Err(2);
-    }
-    let back = word_at(trailer, 0);
-    let (m, k, n) = (
-        word_at(trailer, 1),
-        word_at(trailer, 2),
-        word_at(trailer, 3),
-    );
+    let (kind, trailer) = find_trailer(file)?;
+    let word = |index| word_at(trailer, index);
+    let (back, m, k, n) = (word(0), word(1), word(2), word(3));
     if !sizes_in_range(k, m, n) {
         return Err(3);
     }
-    if u64::from(back) != back_length(m, n) {
+    if u64::from(back) != kind.back_length(m, n) {
         return Err(4);
     }
     if back as usize > file.len() {
         return Err(5);
     }
+    // What a kind does not have is 0.
+    let mut position = [0; 2];
+    for (i, found) in position.iter_mut().enumerate().take(kind.more) {
+        *found = word(COMMON + i);
+    }
     let record = Record {
-        regs: std::array::from_fn(|i| word_at(trailer, 4 + i)),
-        qifv: word_at(trailer, 20),
-        qifw: word_at(trailer, 21),
+        regs: std::array::from_fn(|i| word(4 + i)),
+        qifv: word(20),
+        qifw: word(21),
         k,
         m,
         n,
+        position: position_of(position),
     };
     Ok((record, file.len() - back as usize))
 }
@@ -90,34 +149,16 @@ pub fn preface(file: &[u8]) -> &[u8] {
     }
 }
 
-/// The 23 words of the trailer.
-fn trailer_words(r: &Record) -> [u32; 23] {
-    let mut words = [0; 23];
-    words[0] = back_length(r.m, r.n) as u32;
-    words[1] = r.m;
-    words[2] = r.k;
-    words[3] = r.n;
-    words[4..20].copy_from_slice(&r.regs);
-    words[20] = r.qifv;
-    words[21] = r.qifw;
-    words[22] = u32::from_le_bytes(MARK);
-    words
-}
-
 /// Writes the image without preface to the front of `out`.
 pub fn save(r: Record, mem: &[u32], table: &[u32], out: &mut [u8]) -> u32 {
     if !sizes_fit(&r, mem, table) {
         return 10;
     }
-    let back = back_length(r.m, r.n) as usize;
-    if out.len() < back {
+    let image = SAVED.image(&r, mem, table);
+    if out.len() < image.len() {
         return 9;
     }
-    let m = r.m as usize;
-    let words = NODE * r.n as usize;
-    put_words(&mut out[..4 * m], &mem[..m]);
-    put_words(&mut out[4 * m..4 * (m + words)], &table[..words]);
-    put_words(&mut out[4 * (m + words)..back], &trailer_words(&r));
+    out[..image.len()].copy_from_slice(&image);
     0
 }
 

@@ -7,6 +7,7 @@ pub mod instruction;
 pub mod rng;
 
 pub mod machine;
+pub mod positions;
 pub mod words;
 
 pub mod image;

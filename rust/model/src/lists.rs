@@ -1,6 +1,6 @@
 //! Lists of calls: Left makes any calls, Right the single turns that remain.
 
-use crate::compare::{batch_size, follow, turn_by_turn};
+use crate::compare::{adds_up, batch_size, follow, one_way, turn_by_turn};
 use crate::cover::Cover;
 use crate::machine::{sizes_fit, Batch, NODE};
 use crate::rng::Rng;
@@ -34,9 +34,7 @@ impl Gave {
 
     /// What a single turn, a batch or a preview gave.
     pub fn one_way(way: Way, turns: u32, refusal: u32) -> Gave {
-        let mut accepted = [0; 2];
-        accepted[way as usize] = turns.into();
-        let [forward, back] = accepted;
+        let [forward, back] = one_way(way, turns);
         Gave {
             forward,
             back,
@@ -130,10 +128,22 @@ pub fn run_left(
     list
 }
 
+/// The accepted turns of a list, forward and back.
+fn accepted(list: &[(Call, Gave)]) -> [u64; 2] {
+    let forward = list.iter().map(|(_, gave)| gave.forward).sum();
+    let back = list.iter().map(|(_, gave)| gave.back).sum();
+    [forward, back]
+}
+
 /// The accepted forward turns less the accepted back turns.
 pub fn net(list: &[(Call, Gave)]) -> i64 {
-    let of_one = |gave: &Gave| gave.forward as i64 - gave.back as i64;
-    list.iter().map(|(_, gave)| of_one(gave)).sum()
+    let [forward, back] = accepted(list);
+    forward as i64 - back as i64
+}
+
+/// Checks that the position is the one at the beginning and the net turns.
+pub fn position_adds_up(list: &[(Call, Gave)], start: &Machine, end: &Machine) {
+    adds_up(&start.record, &end.record, accepted(list));
 }
 
 /// Makes a list again, without its previews: the other calls give the same,
@@ -160,6 +170,7 @@ fn count_call(cover: &mut Cover, call: &Call, gave: Gave) {
         Call::Single(_) => cover.count("single"),
         Call::Samples(_, list) if list.is_empty() => cover.count("no samples"),
         Call::Samples(..) => cover.count("samples"),
+        Call::Preview(_) if gave.refusal == 21 => return cover.count("preview refused by 21"),
         Call::Preview(_) if gave.refusal != 0 => return cover.count("refused preview"),
         Call::Preview(_) => cover.count("preview"),
     }
@@ -167,6 +178,7 @@ fn count_call(cover: &mut Cover, call: &Call, gave: Gave) {
         0 => {}
         19 => cover.count("samples refused by 19"),
         20 => cover.count("samples refused by 20"),
+        21 => cover.count("call refused by 21"),
         _ => cover.count("refused call"),
     }
 }
@@ -208,22 +220,25 @@ pub fn count_net(cover: &mut Cover, net: i64) {
 }
 
 /// What every list test must have met.
-pub const LIST_CASES: [&str; 18] = [
+pub const LIST_CASES: [&str; 21] = [
     "empty list",
     "batch of 0",
     "batch of 4294967295",
     "batch",
     "single",
     "refused call",
+    "call refused by 21",
     "no samples",
     "samples",
     "samples both ways",
     "samples with a refused turn",
+    "accepted after a 21",
     "samples refused by 19",
     "samples refused by 20",
     "preview",
     "preview of a changed word",
     "refused preview",
+    "preview refused by 21",
     "net 0",
     "net forward",
     "net back",

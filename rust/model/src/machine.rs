@@ -17,7 +17,7 @@ pub const NX: usize = 6;
 pub const PR: usize = 7;
 pub const W: usize = 8;
 
-/// Registers, node, wait count and sizes.
+/// Registers, node, wait count, sizes and position.
 #[repr(C)]
 #[derive(Clone, Copy, Debug, Default, PartialEq, Eq, Hash)]
 pub struct Record {
@@ -27,6 +27,9 @@ pub struct Record {
     pub k: u32,
     pub m: u32,
     pub n: u32,
+    /// The accepted forward turns less the back turns, from any number
+    /// (document 02, #104).
+    pub position: i64,
 }
 
 /// Whether K, M and N are in range.
@@ -219,6 +222,7 @@ fn write_cell(address: Option<u32>, mem: &mut [u32], cell: u32) {
 /// after the last of them; the record may be altered before.
 fn forward_turn(r: &mut Record, mem: &mut [u32], table: &[u32]) -> Result<(), u32> {
     require(sizes_fit(r, mem, table), 10)?;
+    r.position = r.position.checked_add(1).ok_or(21u32)?;
     let pc = r.regs[PC];
     require(pc < r.k, 11)?;
     require(!code_holds(r, mem, pc, FINISH), 12)?;
@@ -245,6 +249,7 @@ fn forward_turn(r: &mut Record, mem: &mut [u32], table: &[u32]) -> Result<(), u3
 /// before the last of them.
 fn back_turn(r: &mut Record, mem: &mut [u32], table: &[u32]) -> Result<(), u32> {
     require(sizes_fit(r, mem, table), 10)?;
+    r.position = r.position.checked_sub(1).ok_or(21u32)?;
     if r.qifw == 0 {
         require(!code_holds(r, mem, r.regs[PC], START), 12)?;
         // A word that names pc reads the turn's own pc, so it shrinks first.

@@ -35,6 +35,22 @@ impl Way {
         }
     }
 
+    /// The position at which this direction's turns end, refused by 21.
+    pub fn last_position(self) -> i64 {
+        match self {
+            Way::Forward => i64::MAX,
+            Way::Back => i64::MIN,
+        }
+    }
+
+    /// The position after so many accepted turns, if there is one.
+    pub fn position_after(self, position: i64, turns: u64) -> Option<i64> {
+        match self {
+            Way::Forward => position.checked_add_unsigned(turns),
+            Way::Back => position.checked_sub_unsigned(turns),
+        }
+    }
+
     /// The model's turn in this direction.
     pub fn model(self) -> Turn {
         match self {

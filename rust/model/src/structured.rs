@@ -208,6 +208,7 @@ fn assemble(
         k,
         m: k + data.count,
         n: (table.len() / NODE) as u32,
+        position: 0,
     };
     Machine { record, mem, table }
 }

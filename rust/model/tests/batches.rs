@@ -35,19 +35,23 @@ fn one_batch(way: Way, machine: &mut Machine, n: u32, cover: &mut Cover) -> Batc
 
 /// The kinds of batches; `k` turns of `n` are made, and `next` is the refusal
 /// of the turn behind them.
-fn cases(n: u32, k: u32, next: u32) -> [(&'static str, bool); 11] {
+fn cases(n: u32, k: u32, next: u32) -> [(&'static str, bool); 15] {
     let all = n > 0 && k == n;
     [
         ("n 0", n == 0),
         ("n 0, next refused", n == 0 && next != 0),
         ("n 0, next refused by 10", n == 0 && next == 10),
+        ("n 0, next refused by 21", n == 0 && next == 21),
         ("n 1", n == 1),
         ("n largest", n == u32::MAX),
         ("first refused", k == 0 && n > 0),
+        ("first refused by 21", k == 0 && n > 0 && next == 21),
         ("later refused", k > 0 && k < n),
+        ("later refused by 21", k > 0 && k < n && next == 21),
         ("last refused", k > 0 && n - k == 1),
         ("all n", all),
         ("all n, next refused", all && next != 0),
+        ("all n, next refused by 21", all && next == 21),
         ("all n, above 256", all && n > 256),
     ]
 }
@@ -124,13 +128,15 @@ fn sizes() {
     demand(&cover, &["n 0, next refused by 10", "first refused"]);
 }
 
-/// Code of 400 words addi r1,1, turned from either end; worked out by hand.
+/// Code of 400 words addi r1,1, turned from either end; worked out by hand. The
+/// position passes 0 on the way.
 #[test]
 fn straight_code() {
     let at = |turns: u32| {
         let mut record = Record {
             k: 400,
             m: 400,
+            position: i64::from(turns) - 100,
             ..Record::default()
         };
         record.regs[PC] = turns;

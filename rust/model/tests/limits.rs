@@ -3,7 +3,7 @@
 
 mod proved;
 
-use crank_model::image;
+use crank_model::image::{self, SAVED};
 use crank_model::instruction::{word_i, word_r};
 use crank_model::machine::{Record, CF, FC, NODE};
 use crank_model::state::{Machine, Turn, WAYS};
@@ -59,6 +59,12 @@ fn visit_words(sizes: [u32; 3], lent: [usize; 2], visit: &mut impl FnMut(Machine
         for word in [word_i(2, R1, 5), last_data] {
             visit(machine_of(sizes, lent, word, pc));
         }
+        // At both ends of the position, too.
+        for position in WAYS.map(|way| way.last_position()) {
+            let mut machine = machine_of(sizes, lent, word_i(2, R1, 5), pc);
+            machine.record.position = position;
+            visit(machine);
+        }
         // A qif to the last node, and the undoing of it.
         for node in [1, n] {
             let mut machine = machine_of(sizes, lent, word_r(24, R1, 0), pc);
@@ -70,8 +76,8 @@ fn visit_words(sizes: [u32; 3], lent: [usize; 2], visit: &mut impl FnMut(Machine
 }
 
 /// Refusals seen over all machines, forward and back.
-fn seen(turns: [Turn; 2]) -> [[u32; 20]; 2] {
-    let mut seen = [[0; 20]; 2];
+fn seen(turns: [Turn; 2]) -> [[u32; 22]; 2] {
+    let mut seen = [[0; 22]; 2];
     each(|start| {
         for way in WAYS {
             let mut machine = start.clone();
@@ -91,7 +97,8 @@ fn seen(turns: [Turn; 2]) -> [[u32; 20]; 2] {
 fn model() {
     let seen = seen(WAYS.map(|way| way.model()));
     for way in seen {
-        assert!([0, 10, 11, 15, 17].iter().all(|number| way[*number] > 0));
+        let numbers = [0, 10, 11, 15, 17, 21];
+        assert!(numbers.iter().all(|number| way[*number] > 0));
     }
     let (mut good, mut bad) = (0, 0);
     each(|machine| {
@@ -146,7 +153,7 @@ fn check_and_save() {
         let expected = image::check(m.record, &m.mem, &m.table);
         let found = proved::check(m.record, &m.mem, &m.table);
         assert_eq!(found, expected, "{:?}", m.record);
-        let fits = image::back_length(m.record.m, m.record.n).min(52_000) as usize;
+        let fits = SAVED.back_length(m.record.m, m.record.n).min(52_000) as usize;
         for len in [fits, fits - 1] {
             let (mut out, mut model_out) = (vec![7; len], vec![7; len]);
             let found = proved::save(m.record, &m.mem, &m.table, &mut out);

@@ -6,7 +6,8 @@ use crank_model::compare::same_preview;
 use crank_model::cover::Cover;
 use crank_model::generate::for_run;
 use crank_model::lists::{
-    count_net, net, other_excess, run_left, run_right, without_previews, Call, Gave, LIST_CASES,
+    count_net, net, other_excess, position_adds_up, run_left, run_right, without_previews, Call,
+    Gave, LIST_CASES,
 };
 use crank_model::machine;
 use crank_model::preview::{self, PreviewCall};
@@ -75,6 +76,7 @@ where
         let start = for_run(&mut rng, way);
         let mut end = start.clone();
         let list = run_left(&mut rng, &mut end, left(&start), &mut cover);
+        position_adds_up(&list, &start, &end);
         without_previews(&list, start.clone(), &end, left(&start));
         let net = net(&list);
         run_right(net, other_excess(&mut rng, &start), &end, turns);

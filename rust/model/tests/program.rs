@@ -7,9 +7,9 @@ use std::process::{Command, Stdio};
 
 use crank_model::damage::damage;
 use crank_model::generate::valid;
-use crank_model::image::{back_length, save};
+use crank_model::image::{Kind, KINDS, SAVED};
 use crank_model::instruction::{word_i, word_o, FINISH, START};
-use crank_model::machine::{sizes_fit, Record};
+use crank_model::machine::{forward_batch, sizes_fit, Record};
 use crank_model::program::output;
 use crank_model::rng::{rounds, Rng};
 use crank_model::state::Machine;
@@ -54,10 +54,8 @@ fn compare(program: &PathBuf, input: &[u8]) -> String {
     expected
 }
 
-fn image_of(m: &Machine, preface: &[u8]) -> Vec<u8> {
-    let mut out = vec![0; back_length(m.record.m, m.record.n) as usize];
-    assert_eq!(save(m.record, &m.mem, &m.table, &mut out), 0);
-    [preface, &out].concat()
+fn image_of(kind: Kind, m: &Machine, preface: &[u8]) -> Vec<u8> {
+    [preface, &kind.image(&m.record, &m.mem, &m.table)].concat()
 }
 
 fn random_machine(rng: &mut Rng) -> Machine {
@@ -84,8 +82,9 @@ fn generated_images() {
         if !sizes_fit(&machine.record, &machine.mem, &machine.table) {
             continue;
         }
-        let preface = rng.pick(&[0, 0, 7, 100]);
-        let text = compare(&program, &image_of(&machine, &rng.bytes(preface)));
+        let preface_len = rng.pick(&[0, 0, 7, 100]);
+        let preface = rng.bytes(preface_len);
+        let text = compare(&program, &image_of(rng.pick(&KINDS), &machine, &preface));
         let line = text.lines().next().unwrap_or("");
         finished += u32::from(line.ends_with("refusal 12"));
         refused += u32::from(!line.ends_with("refusal 12"));
@@ -100,15 +99,20 @@ fn refused_loads() {
     let mut rng = Rng::new(82);
     let mut seen = [0; 7];
     for _ in 0..rounds(120) {
-        let mut file = image_of(&random_machine(&mut rng), &[]);
+        let kind = rng.pick(&KINDS);
+        let mut file = image_of(kind, &random_machine(&mut rng), &[]);
         let len = file.len();
-        match rng.below(5) {
+        let trailer = len - kind.trailer();
+        match rng.below(6) {
             0 => file.truncate(rng.index(92)),
-            1 => file[len - 1] ^= 1 << rng.below(8),
-            2 => file[len - 92 + 4 * rng.between(1, 3) as usize + 3] = 1,
-            3 => file[len - 92] ^= 1,
+            1 => file[len - 1] ^= 4 << rng.below(6),
+            2 => file[trailer + 4 * rng.between(1, 3) as usize + 3] = 1,
+            3 => file[trailer] ^= 1,
+            4 => {
+                file.drain(..len.saturating_sub(rng.between(92, 99) as usize));
+            }
             _ => {
-                file.drain(..1 + rng.index(len - 92));
+                file.drain(..1 + rng.index(trailer));
             }
         }
         let text = compare(&program, &file);
@@ -124,12 +128,43 @@ fn refused_loads() {
 fn file_lengths() {
     let Some(program) = program() else { return };
     let mut rng = Rng::new(83);
-    let image = image_of(&structured::program(&mut rng, None), &[]);
+    let machine = structured::program(&mut rng, None);
     compare(&program, &[]);
-    for length in [65_535, 65_536, 65_537, 100_000, 300_000] {
-        let preface = rng.bytes(length - image.len());
-        let text = compare(&program, &[&preface[..], &image].concat());
-        assert_eq!(text == "refusal 1\n", length > 65_536);
+    for image in KINDS.map(|kind| image_of(kind, &machine, &[])) {
+        for length in [65_535, 65_536, 65_537, 100_000, 300_000] {
+            let preface = rng.bytes(length - image.len());
+            let text = compare(&program, &[&preface[..], &image].concat());
+            assert_eq!(text == "refusal 1\n", length > 65_536);
+        }
+    }
+}
+
+/// Three lines, the same for both kinds and wherever the position is, unless it
+/// comes to its end.
+#[test]
+fn positions() {
+    let Some(program) = program() else { return };
+    let mut rng = Rng::new(85);
+    for _ in 0..rounds(10) {
+        let rounds = rng.between(1, 40);
+        let mut machine = structured::program(&mut rng, Some(rounds));
+        let old = compare(&program, &image_of(KINDS[0], &machine, &[]));
+        let turns = machine.clone().batch(u32::MAX, forward_batch).turns;
+        assert!(old.starts_with(&format!("turns {turns} refusal 12\n")));
+        assert_eq!(old.lines().count(), 3);
+        let far = i64::MAX - i64::from(turns);
+        for position in [0, 1, -1, i64::MIN, far - 1] {
+            machine.record.position = position;
+            let new = compare(&program, &image_of(SAVED, &machine, &[]));
+            assert_eq!(new, old, "at {position}");
+        }
+        for less in [0, 1, turns] {
+            machine.record.position = far + i64::from(less);
+            let text = compare(&program, &image_of(SAVED, &machine, &[]));
+            let line = format!("turns {} refusal 21\n", turns - less);
+            assert!(text.starts_with(&line), "{text}");
+            assert_eq!(text.lines().count(), 3);
+        }
     }
 }
 
@@ -164,12 +199,14 @@ fn long_runs() {
         (4, "turns 1000000 refusal 0"),
     ] {
         let machine = counted_loop(249_999, pad);
-        let text = compare(&program, &image_of(&machine, &[]));
-        assert_eq!(text.lines().next(), Some(line));
+        for kind in KINDS {
+            let text = compare(&program, &image_of(kind, &machine, &[]));
+            assert_eq!(text.lines().next(), Some(line));
+        }
     }
     let mut rng = Rng::new(84);
     for _ in 0..2 {
         let machine = structured::program(&mut rng, Some(1_000_000));
-        compare(&program, &image_of(&machine, &[]));
+        compare(&program, &image_of(SAVED, &machine, &[]));
     }
 }

@@ -84,6 +84,24 @@ fn states(code: [u32; 2], table: &[u32]) -> Vec<Machine> {
     all
 }
 
+/// Three positions in a row: around 0 and at either end.
+const POSITIONS: [[i64; 3]; 3] = [
+    [-1, 0, 1],
+    [i64::MAX - 2, i64::MAX - 1, i64::MAX],
+    [i64::MIN, i64::MIN + 1, i64::MIN + 2],
+];
+
+/// Each state at each of the positions.
+fn at_positions(states: &[Machine], positions: [i64; 3]) -> Vec<Machine> {
+    let at = |state: &Machine, position| {
+        let mut state = state.clone();
+        state.record.position = position;
+        state
+    };
+    let of_state = |state| positions.map(|position| at(state, position));
+    states.iter().flat_map(of_state).collect()
+}
+
 /// Turns every state; gives the accepted ones.
 fn injective(way: Way, states: &[Machine]) -> usize {
     let mut reached: HashMap<(Record, u32), usize> = HashMap::new();
@@ -121,6 +139,7 @@ fn no_two_states_lead_to_the_same() {
             let other = rng.pick(&others);
             for code in [[word, other], [other, word], [word, word]] {
                 let all = states(code, &table(rng.chance(1, 3)));
+                let all = at_positions(&all, rng.pick(&POSITIONS));
                 machines += 1;
                 for way in WAYS {
                     accepted[way as usize] += injective(way, &all);

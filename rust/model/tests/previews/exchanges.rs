@@ -59,6 +59,7 @@ impl Exchange {
         }
         let mut record = *r;
         record.regs[PC] = u32::from(way == Way::Forward);
+        record.position = if way == Way::Forward { 1 } else { -1 };
         record.regs[R1] = match self.opcode {
             FETR => self.register ^ self.word,
             _ => self.word,
@@ -184,6 +185,10 @@ fn refused_exchanges() {
             let (shown, _) = one_preview(way, &machine, &mut cover);
             assert_eq!(shown, refused(refusals[way as usize], &machine.record));
         }
+        let mut machine = good.clone();
+        machine.record.position = way.last_position();
+        let (shown, _) = one_preview(way, &machine, &mut cover);
+        assert_eq!(shown, refused(21, &machine.record));
     }
     cover.summary("refused exchanges");
 }

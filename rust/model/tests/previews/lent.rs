@@ -23,6 +23,7 @@ fn record(pc: u32, qifv: u32, qifw: u32) -> Record {
         k: 4,
         m: 5,
         n: 2,
+        position: 0,
     }
 }
 

@@ -133,8 +133,8 @@ fn demand_cases(cover: &Cover, wanted: fn(&&str) -> bool) {
 }
 
 /// Fails if an instruction, a refusal or a kind of preview was not met in one
-/// of the directions. Each refusal from 10 to 18 can occur in both: 12 is
-/// finish forward and start back, 18 the other way round.
+/// of the directions. Each refusal from 10 to 18 and 21 can occur in both: 12
+/// is finish forward and start back, 18 the other way round.
 fn demand_all(cover: &Cover) {
     cover.demand_turns();
     cover.demand(&["memory longer than M", "table longer than 9N"]);

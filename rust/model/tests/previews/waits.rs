@@ -71,11 +71,11 @@ fn counts() -> Vec<u32> {
     all
 }
 
-/// What the turns of a qif change: pc, qifv and qifw.
+/// What the turns of a qif change beside the position: pc, qifv and qifw.
 type Stand = (u32, u32, u32);
 
 impl Qif {
-    fn record(&self, (pc, qifv, qifw): Stand) -> Record {
+    fn record(&self, (pc, qifv, qifw): Stand, position: i64) -> Record {
         let mut regs = [7; 16];
         regs[PC] = pc;
         regs[BR] = self.br;
@@ -87,10 +87,11 @@ impl Qif {
             k: K,
             m: M,
             n: self.n,
+            position,
         }
     }
 
-    fn machine(&self, stand: Stand) -> Machine {
+    fn machine(&self, stand: Stand, position: i64) -> Machine {
         let mut mem = vec![word_i(2, COIN, 1); M as usize];
         mem[self.at as usize] = word_r(QIF, COIN, 0);
         let mut table = vec![OTHER; NODE * self.n as usize];
@@ -99,7 +100,7 @@ impl Qif {
         set(self.child, CF, self.parent);
         set(self.child, W, self.w);
         Machine {
-            record: self.record(stand),
+            record: self.record(stand, position),
             mem,
             table,
         }
@@ -155,31 +156,43 @@ fn by_node(way: Way, kind: &str, n: u32, coin: u32) -> String {
     format!("{way:?} {kind}, N {n}, coin {coin}")
 }
 
+/// Where a forward turn takes the position, and a back turn takes it back.
+const POSITIONS: [(i64, i64); 3] = [(-1, 0), (i64::MIN, i64::MIN + 1), (i64::MAX - 1, i64::MAX)];
+
 /// The turns of one qif, previewed both ways.
 fn previews(qif: &Qif, cover: &mut Cover) {
-    let mut one = |way: Way, kind: &str, from: Stand, expected: Preview| {
-        let (shown, _) = one_preview(way, &qif.machine(from), cover);
+    let mut one = |way: Way, kind: &str, from: Stand, position: i64, expected: Preview| {
+        let (shown, _) = one_preview(way, &qif.machine(from, position), cover);
         assert_eq!(shown, expected, "{way:?} {kind} from {from:?}, {qif:?}");
         cover.count(&by_wait(way, kind, qif.w));
         cover.count(&by_node(way, kind, qif.n, qif.coin));
     };
     for (kind, from, to) in qif.turns() {
-        one(Way::Forward, kind, from, accepted(qif.record(to)));
-        one(Way::Back, kind, to, accepted(qif.record(from)));
+        for (low, high) in POSITIONS {
+            let (before, after) = (qif.record(from, low), qif.record(to, high));
+            one(Way::Forward, kind, from, low, accepted(after));
+            one(Way::Back, kind, to, high, accepted(before));
+        }
+        for (way, stand) in WAYS.into_iter().zip([from, to]) {
+            let last = way.last_position();
+            let shown = refused(21, &qif.record(stand, last));
+            one(way, "last position", stand, last, shown);
+        }
     }
     for from in qif.too_many() {
         for way in WAYS {
-            one(way, "above w", from, refused(14, &qif.record(from)));
+            one(way, "above w", from, 0, refused(14, &qif.record(from, 0)));
         }
     }
 }
 
 /// The kinds of turns, and the smallest and the largest w that have them.
-const KINDS: [(&str, u32, u32); 5] = [
+const KINDS: [(&str, u32, u32); 6] = [
     ("entry", 0, u32::MAX),
     ("first wait", 2, u32::MAX),
     ("wait between", 3, u32::MAX),
     ("last wait", 1, u32::MAX),
+    ("last position", 0, u32::MAX),
     ("above w", 0, u32::MAX - 1),
 ];
 

@@ -14,6 +14,7 @@ fn given(r: Record) -> crank::Record {
         k: r.k,
         m: r.m,
         n: r.n,
+        position: r.position,
     }
 }
 
@@ -25,6 +26,7 @@ fn got(r: crank::Record) -> Record {
         k: r.k,
         m: r.m,
         n: r.n,
+        position: r.position,
     }
 }
 

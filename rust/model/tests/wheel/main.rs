@@ -36,7 +36,7 @@ fn one_wheel(machine: &mut Machine, given: u8, samples: &[u8], cover: &mut Cover
 }
 
 /// What every test of random wheels must have met.
-const CASES: [&str; 14] = [
+const CASES: [&str; 15] = [
     "empty list",
     "equal sample",
     "bounce",
@@ -44,6 +44,7 @@ const CASES: [&str; 14] = [
     "accepted back",
     "refused turn",
     "accepted after a refused turn",
+    "accepted after a 21",
     "all samples taken",
     "19",
     "20 by a sample",

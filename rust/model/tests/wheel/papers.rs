@@ -68,6 +68,7 @@ fn examples(call: SampleCall) -> usize {
         let mut expected = two_turns();
         expected.record.regs[0] = pc;
         expected.record.regs[4] = r1;
+        expected.record.position = counts[0] as i64 - counts[1] as i64;
         let wheeled = Wheeled {
             forward: counts[0],
             back: counts[1],

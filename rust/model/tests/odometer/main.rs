@@ -1,0 +1,71 @@
+//! The position (document 02, #104): counted by every accepted turn, left by
+//! every refused one, and 21 at its two ends; by the model, the library, the
+//! lesson bench and the previews.
+
+#[path = "../proved/mod.rs"]
+mod proved;
+
+mod batches;
+mod ends;
+mod papers;
+mod samples;
+mod waits;
+
+use crank_model::instruction::{word_i, BR, PC};
+use crank_model::machine::{self, Record};
+use crank_model::state::{BatchCall, Machine, Turn};
+use crank_model::wheel::{self, SampleCall};
+
+/// Single turns forward and back; the last as the previews show them.
+const TURNS: [(&str, [Turn; 2]); 4] = [
+    ("model", [machine::forward, machine::back]),
+    ("library", [proved::forward, proved::back]),
+    ("bench", [proved::bench::forward, proved::bench::back]),
+    (
+        "previews",
+        [proved::forward_as_shown, proved::back_as_shown],
+    ),
+];
+
+const BATCHES: [(&str, [BatchCall; 2]); 3] = [
+    ("model", [machine::forward_batch, machine::back_batch]),
+    ("library", [proved::forward_batch, proved::back_batch]),
+    (
+        "bench",
+        [proved::bench::forward_batch, proved::bench::back_batch],
+    ),
+];
+
+const SAMPLES: [(&str, SampleCall); 3] = [
+    ("model", wheel::samples),
+    ("library", proved::samples),
+    ("bench", proved::bench::samples),
+];
+
+/// Two branches that jump to each other, so that no turn either way ends it:
+/// after every other turn only the position is another.
+fn endless(position: i64) -> Machine {
+    let mut record = Record {
+        k: 2,
+        m: 2,
+        position,
+        ..Record::default()
+    };
+    record.regs[PC] = 1;
+    Machine {
+        record,
+        mem: vec![word_i(5, 0, 0xFFFF); 2],
+        table: Vec::new(),
+    }
+}
+
+/// What it is after so many turns in either direction, at the position where
+/// they end.
+fn endless_after(turns: u64, position: i64) -> Machine {
+    let mut machine = endless(position);
+    if turns % 2 == 1 {
+        machine.record.regs[PC] = 0;
+        machine.record.regs[BR] = u32::MAX;
+    }
+    machine
+}
