@@ -39,8 +39,8 @@ typedef struct Record {
 
 /* What a turn answers. */
 typedef struct Turned {
-    uint32_t refusal;
     Record state; /* the record after the turn; refused: the record given */
+    uint32_t refusal;
 } Turned;
 
 /* What a batch answers. */
@@ -105,8 +105,8 @@ typedef struct Sampled {
 CRANK_LAYOUT(sizeof(Record) == 96, "Record: 21 words, one to fill up, and the position");
 CRANK_LAYOUT(offsetof(Record, qifv) == 64, "Record: registers first");
 CRANK_LAYOUT(offsetof(Record, position) == 88, "Record: position last");
-CRANK_LAYOUT(sizeof(Turned) == 104, "Turned: a word, one to fill up, and a record");
-CRANK_LAYOUT(offsetof(Turned, state) == 8, "Turned: record last");
+CRANK_LAYOUT(sizeof(Turned) == 104, "Turned: a record, a word, and one to fill up");
+CRANK_LAYOUT(offsetof(Turned, refusal) == 96, "Turned: record first");
 CRANK_LAYOUT(sizeof(Batch) == 104, "Batch: two words and a record");
 CRANK_LAYOUT(offsetof(Batch, state) == 8, "Batch: record last");
 CRANK_LAYOUT(sizeof(Preview) == 112, "Preview: four words and a record");

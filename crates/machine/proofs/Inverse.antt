@@ -208,7 +208,7 @@ room-of t at l h =
     let enough = and-true (inRange at) _ (not-not _ h) .1 in
     leb-true _ _ (and-true (leb (at .m) (length l)) _ enough .0)
 
-same-sizes : (t : List ℕ) (at at′ : Status) (l l′ : List ℕ) → SameSizes at at′ → length l′ ≡ length l → badSizes at′ l′ t ≡ badSizes at l t
+pub same-sizes : (t : List ℕ) (at at′ : Status) (l l′ : List ℕ) → SameSizes at at′ → length l′ ≡ length l → badSizes at′ l′ t ≡ badSizes at l t
 unfolding badSizes inRange
 same-sizes t at at′ l l′ z e = rw (z .k, z .m, z .n, e)
 

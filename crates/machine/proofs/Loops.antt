@@ -8,16 +8,16 @@ use native.Mathlib.Omega.{arith}
 use lib.Dec.{eqb, ltb}
 use lib.IntN.{ℤ}
 use lib.ListN.{length, take}
-use borrow.Author.Tests.{ltb-true, ltb-false}
+use borrow.Author.Tests.{ne-eqb, ltb-true, ltb-false}
 use Rattle.word.specs.Word.{pick}
 use Rattle.step.specs.declared.Status.{Status}
 use Rattle.step.specs.declared.Direction.{Direction}
 use Rattle.step.specs.declared.Store.{Store}
 use Rattle.step.specs.View.{nodes}
 use Rattle.step.proofs.Sized.{SameSizes}
-use Rattle.machine.specs.Calls.{Machine, machineOf, Bounded, statusOf, updated, refusal, next}
+use Rattle.machine.specs.Calls.{Machine, machineOf, Bounded, statusOf, updated, refusal, next, wrongSizes}
 use Rattle.machine.specs.Position.{isLast, advanced}
-use Rattle.machine.specs.InPlace.{Steps, room, endRefusal}
+use Rattle.machine.specs.InPlace.{Steps, room, lastRefusal}
 use Rattle.machine.specs.Batch.{after, turnsMade, BatchPromise}
 use Rattle.machine.specs.declared.Record.{Record}
 use Rattle.machine.proofs.InPlace.{steps-regs}
@@ -25,6 +25,7 @@ use Rattle.machine.proofs.Claims.{same-status, refused-keeps, next-size
 use Rattle.machine.proofs.Room.{advance-none, Along, along, last-room}
 use Rattle.machine.proofs.Whole.{status-is, refusal-is, state-is, memory-is, last-refusal, last-stands}
 use Rattle.machine.proofs.Batches.{after-add, made-add, Ends, ends-refused, ends-none, ends-there, promises}
+use Rattle.machine.proofs.Inverse.{same-sizes}
 
 module _ (table : List ℕ) (d : Direction) where
   -- the loop, after i turns from x, all of them made, that led to y
@@ -132,27 +133,29 @@ module _ {table : List ℕ} {d : Direction} {n most : ℕ} {r : Record} {mem₀ 
       → BatchPromise d n r mem₀ table (record { turns = i; refusal = w; state = r′ }) mem′
   out w r′ mem′ e = promises i w r′ mem′ (inv .bounds) (ends table d n x y i (inv .run) w (machineOf r′ mem′) e)
 
-  -- all turns that there was room for
-  pub done : most ≤ i → BatchPromise d n r mem₀ table (record { turns = i; refusal = endRefusal (ltb most n) at (take (at .m) mem) (nodes at table); state = R }) mem
-  done h = go (ltb most n) refl
-    where
-      v : i ≤ most
-      v = inv .within
+  -- all n turns are made, or there is room for no more
+  pub done : most ≤ i → n ≤ most → BatchPromise d n r mem₀ table (record { turns = i; refusal = 0; state = R }) mem
+  done h l =
+      let v = inv .within in
+      let m = inv .limit .asked in
+      let z : 0 ≡ n - i = omega arith in
+      out 0 R mem (subst (λ (k : ℕ). Ends table d k y 0 0 y) z (ends-none table d y))
 
-      go : (b : Bool) → ltb most n ≡ b → BatchPromise d n r mem₀ table (record { turns = i; refusal = endRefusal b at (take (at .m) mem) (nodes at table); state = R }) mem
-      go false e =
-          let l = ltb-false most n e in
-          let m = inv .limit .asked in
-          let z : 0 ≡ n - i = omega arith in
-          out 0 R mem (subst (λ (k : ℕ). Ends table d k y 0 0 y) z (ends-none table d y))
-      go true e =
-          let l = ltb-true most n e in
-          let m = inv .limit .full l in
-          let z = at-last (omega arith) in
-          let w = last-refusal d R mem table z in
-          out _ R mem
-          (subst (λ (k : ℕ). Ends table d (n - i) y 0 k y) (w ∙ ap (λ (a : Status). endRefusal true a (take (a .m) mem) (nodes a table)) same)
-          (ends-refused table d (n - i) y (omega arith) (last-stands d R mem table z)))
+  -- the record's sizes are those that it began with
+  wrong : wrongSizes R mem table ≡ wrongSizes r mem table
+  wrong =
+      same-sizes (nodes (statusOf r) table) (statusOf r) (statusOf R) (take (r .m) mem) (take (r .m) mem) (record { k = refl; m = refl; n = refl }) refl
+
+  pub full : most ≤ i → most < n
+      → BatchPromise d n r mem₀ table (record { turns = i; refusal = lastRefusal r mem table; state = R }) mem
+  full h l =
+      let v = inv .within in
+      let m = inv .limit .full l in
+      let z = at-last (omega arith) in
+      let w = last-refusal d R mem table z in
+      out _ R mem
+      (subst (λ (k : ℕ). Ends table d (n - i) y 0 k y) (w ∙ ap (λ (b : Bool). pick b 10 21) wrong)
+      (ends-refused table d (n - i) y (omega arith) (last-stands d R mem table z)))
 
   module _ {w : ℕ} {at′ : Status} {s : Store} {regs′ mem′ : List ℕ} (f : Steps true d at regs mem mem table w at′ s regs′ mem′) (h : i < most) where
     whole : Steps true d (statusOf R) regs mem mem table w at′ s regs′ mem′
@@ -183,12 +186,12 @@ module _ {table : List ℕ} {d : Direction} {n most : ℕ} {r : Record} {mem₀ 
           bounds = inv .bounds;
         }
 
-    pub stop : w ≢ 0
-        → BatchPromise d n r mem₀ table (record { turns = i; refusal = w; state = updated r (advanced d (pick (eqb w 0) (i + 1) i) p) at′ regs′ }) mem′
+    pub stop : w ≢ 0 → BatchPromise d n r mem₀ table (record { turns = i; refusal = w; state = updated r (advanced d i p) at′ regs′ }) mem′
     stop z =
         let e = refusal-is R whole (before-last h) in
         let q : refusal table d y ≢ 0 = λ q. z (e ∙ q) in
         let m = inv .limit .asked in
+        let k = ap (λ (b : Bool). machineOf (updated r (advanced d (pick b (i + 1) i) p) at′ regs′) mem′) (ne-eqb w 0 z) in
         out w _ mem′
-        (subst₂ (λ (k : ℕ) (u : Machine). Ends table d (n - i) y 0 k u) (sym e) (sym (refused-keeps table d y q) ∙ stepped)
+        (subst₂ (λ (k : ℕ) (u : Machine). Ends table d (n - i) y 0 k u) (sym e) (sym (refused-keeps table d y q) ∙ (stepped ∙ k))
         (ends-refused table d (n - i) y (omega arith) q))

@@ -4,7 +4,7 @@ use mathlib.Core.Path.{_≡_, refl, sym, ap, ap₂, _∙_, subst, subst⁻¹}
 use mathlib.Core.Bool.{Bool, true, false}
 use native.Mathlib.Omega.{arith}
 use native.Mathlib.Numerals.{add-one}
-use lib.Dec.{leb, ltb, lit<}
+use lib.Dec.{lit<}
 use lib.IntN.{ℤ, pos, negsuc, sucℤ, predℤ, negℤ, _+ℤ_, _-ℤ_, +ℤ-one, -ℤ-one, +ℤ-idr, +ℤ-assoc, negℤ-+ℤ, +ℤ-negℤ-cancel, -ℤ-+ℤ-cancel}
 use lib.Signed.{mag, leZ, ltZ}
 use borrow.Author.Tests.{leb-false, le-leb, lt-leb, le-ltb}
@@ -113,6 +113,16 @@ room-is d {p} {m} {r} f =
     go Forward (negsuc n) = refl
     go Back (pos n) = rw (le-leb 0 n (omega arith))
     go Back (negsuc n) = refl
+
+-- far from both ends there is room for every batch
+pub room-far : (d : Direction) {p : ℤ} {m n : ℕ} → SFits w64 p → n < 2 ^ 32 → m ≡ mag (asRead p) → m < 4611686018427387904 → n ≤ room d p
+room-far d {p} {m} {n} f l = subst⁻¹ (λ (q : ℤ). m ≡ mag q → m < 4611686018427387904 → n ≤ room d p) (toZ-ofZ f) (go d p)
+  where
+    go : (d : Direction) (p : ℤ) → m ≡ mag p → m < 4611686018427387904 → n ≤ room d p
+    go Forward (pos k) e h = omega arith
+    go Forward (negsuc k) e h = omega arith
+    go Back (pos k) e h = omega arith
+    go Back (negsuc k) e h = omega arith
 
 pub room-read : (d : Direction) {p : ℤ} {r : ℕ} → SFits w64 p → r ≡ room d (asRead p) → r ≡ room d p
 room-read d {p} {r} f = subst⁻¹ (λ (q : ℤ). r ≡ room d q → r ≡ room d p) (toZ-ofZ f) (λ e. e)

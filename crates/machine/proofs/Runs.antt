@@ -1,5 +1,5 @@
 -- A run of turns, which may be live or not. Assumes nothing.
-use mathlib.Core.Path.{_≡_, refl, sym, ap, ap₂, _∙_, subst, subst₂}
+use mathlib.Core.Path.{_≡_, refl, sym, ap, ap₂, _∙_, subst, subst⁻¹, subst₂}
 use mathlib.Core.Bool.{Bool, true, false, true≢false, _&&_}
 use mathlib.Core.Logic.{_≢_}
 use mathlib.Core.List.{List}
@@ -7,31 +7,33 @@ use Prim.Native.Nat.{ℕ, _+_, _<_, _≤_}
 use native.Mathlib.Omega.{arith}
 use lib.Dec.{eqb, ltb}
 use lib.IntN.{ℤ}
-use lib.ListN.{length, take}
+use lib.ListN.{length}
 use mir.Syntax.{w64}
 use mir.Val.{SFits}
 use mir.Facts.{toZ-ofZ}
-use borrow.Author.Tests.{eqb-true, eqb-false, eq-eqb, lt-ltb}
+use borrow.Author.Tests.{eqb-true, eqb-false, eq-eqb}
 use Rattle.word.specs.Word.{pick}
 use Rattle.step.specs.declared.Status.{Status}
 use Rattle.step.specs.declared.Direction.{Direction}
 use Rattle.word.proofs.Words.{and-true}
 use Rattle.word.proofs.Bits.{asRead}
 use Rattle.step.specs.declared.Store.{Store}
-use Rattle.step.specs.View.{nodes}
+use Rattle.step.specs.View.{seen}
+use Rattle.step.proofs.Sized.{SameSizes}
 use Rattle.step.specs.Step.{noStore}
-use Rattle.machine.specs.Calls.{Machine, machineOf, Bounded, statusOf, updated, TurnPromise, refusal, next}
+use Rattle.machine.specs.Calls.{Machine, machineOf, Bounded, statusOf, recordAt, updated, TurnPromise, accepted, refusal, next, wrongSizes}
+use Rattle.machine.specs.Turn.{planAt}
 use Rattle.machine.specs.Position.{advanced}
-use Rattle.machine.specs.InPlace.{Steps, room, endRefusal, batchIn, firstOf, Runs}
+use Rattle.machine.specs.InPlace.{Steps, room, lastRefusal, First, Runs}
 use Rattle.machine.specs.Batch.{after, turnsMade, batchOf, BatchPromise}
 use Rattle.machine.specs.declared.Record.{Record}
 use Rattle.machine.specs.declared.Batch.{Batch}
 use Rattle.machine.specs.declared.Ran.{Ran}
 use Rattle.machine.proofs.InPlace.{steps-long}
-use Rattle.machine.proofs.Claims.{refused-keeps}
+use Rattle.machine.proofs.Claims.{refused-keeps, turned-sizes}
 use Rattle.machine.proofs.Room.{advance-none, last-room}
-use Rattle.machine.proofs.Whole.{refusal-is, state-is, store-is, last-first}
-use Rattle.machine.proofs.Loops.{Loop, limited, loop-starts, done, again, stop}
+use Rattle.machine.proofs.Whole.{refusal-is, state-is, store-is, none-accepted, last-first}
+use Rattle.machine.proofs.Loops.{Loop, limited, loop-starts, done, full, again, stop}
 
 -- the invariant: the loop's, and one that is not live has made no turn
 pub record Running (live : Bool) (table : List ℕ) (d : Direction) (n most : ℕ) (r : Record) (mem₀ : List ℕ) (at : Status) (regs mem : List ℕ) (i : ℕ) : Type 0 where
@@ -45,30 +47,59 @@ running-starts {d = d} {n = n} {most = most} e f l g =
     let m = subst (λ (p : ℤ). most ≡ pick (ltb (room d p) n) (room d p) n) (toZ-ofZ f) l in
     record { loop = loop-starts e (limited m) g; first = λ l. (refl, e, refl) }
 
+-- a status with the record's sizes
+made-at : (r : Record) (p : ℤ) (at : Status) (regs : List ℕ) → SameSizes (statusOf r) at → updated r p at regs ≡ recordAt at regs p
+made-at r p at regs z =
+    let k = sym (z .k) in
+    let m = sym (z .m) in
+    let n = sym (z .n) in
+    λ j. record { regs = regs; qifv = at .qifv; qifw = at .qifw; k = k j; m = m j; n = n j; position = p }
+
 module _ (live : Bool) (mem shown : List ℕ) {table : List ℕ} {d : Direction} {n most : ℕ} {r : Record} {mem₀ : List ℕ} {at : Status} {regs : List ℕ} {i : ℕ}
     (inv : Running live table d n most r mem₀ at regs mem i) where
-  pub run-room : i ≤ room d (r .position)
+  run-room : i ≤ room d (r .position)
   run-room = let a = inv .loop .within in let b = inv .loop .limit .inside in omega arith
 
-  pub run-done : {a : Ran} {w : ℕ} {words : List ℕ} {k : Store} → most ≤ i → words ≡ pick live mem shown
-      → w ≡ endRefusal (ltb most n) at (take (at .m) words) (nodes at table) → k ≡ noStore
-      → a ≡ record { turns = i; refusal = w; state = updated r (advanced d i (r .position)) at regs; store = k } → Runs live d n r mem₀ shown table a mem
-  run-done {a} h o e s q =
-      record {
-        batch = λ l. subst (λ (b : Batch). BatchPromise d n r mem₀ table b mem) (sym (ap batchIn q ∙ rw (e, o, l))) (done (inv .loop) h);
-        first = λ l k. q ∙ rw (e, o, s, l) (none-shown l k);
-      }
+  -- what a run ends with, said of the record that it began with
+  runs : (turns w : ℕ) (at′ : Status) (regs′ : List ℕ) (s : Store) (mem′ : List ℕ) → SameSizes (statusOf r) at′
+      → (live ≡ true → BatchPromise d n r mem₀ table (record { turns = turns; refusal = w; state = updated r (advanced d turns (r .position)) at′ regs′ }) mem′)
+      → turns ≤ room d (r .position)
+      → (live ≡ false → 0 < n → First d r shown table w (updated r (advanced d (accepted w) (r .position)) at′ regs′) s)
+      → (live ≡ false → 0 < n → accepted w ≤ room d (r .position))
+      → {a : Ran} → a ≡ record { turns = turns; refusal = w; at = at′; regs = regs′; store = s } → Runs live d n r mem₀ shown table a mem′
+  runs turns w at′ regs′ s mem′ z b m f c q =
+      subst⁻¹ (λ (a : Ran). Runs live d n r mem₀ shown table a mem′) q
+      (record {
+        batch = λ l. subst (λ (u : Record). BatchPromise d n r mem₀ table (record { turns = turns; refusal = w; state = u }) mem′) (made-at r (advanced d turns (r .position)) at′ regs′ z) (b l);
+        made = λ l. m;
+        first = λ l k. subst (λ (u : Record). First d r shown table w u s) (made-at r (advanced d (accepted w) (r .position)) at′ regs′ z) (f l k);
+        counted = c;
+        m = z .m;
+      })
+
+  -- all n turns are made, which are none where it is not live
+  pub run-done : {a : Ran} {k : Store} → most ≤ i → n ≤ most → a ≡ record { turns = i; refusal = 0; at = at; regs = regs; store = k } → Runs live d n r mem₀ shown table a mem
+  run-done h m =
+      runs i 0 at regs _ mem (inv .loop .sizes) (λ l. done (inv .loop) h m) run-room
+      (λ l k. let z = inv .first l .0 in absurd (omega arith)) (λ l k. let z = inv .first l .0 in absurd (omega arith))
+
+  -- or there is room for no more
+  pub run-full : {a : Ran} {w : ℕ} {words : List ℕ} {k : Store} → most ≤ i → most < n → words ≡ pick live mem shown
+      → w ≡ lastRefusal r words table → k ≡ noStore → a ≡ record { turns = i; refusal = w; at = at; regs = regs; store = k }
+      → Runs live d n r mem₀ shown table a mem
+  run-full {words = words} h m o e s =
+      runs i _ at regs _ mem (inv .loop .sizes) (λ l. rw (e, o, l) (full (inv .loop) h m)) run-room
+      (λ l k. rw (e, o, s, l) (last-shown l)) (λ l k. rw (e, none-accepted (wrongSizes r words table)) (omega arith))
     where
-      none-shown : live ≡ false → 0 < n
-          → record { turns = i; refusal = endRefusal (ltb most n) at (take (at .m) shown) (nodes at table); state = updated r (advanced d i (r .position)) at regs; store = noStore }
-          ≡ firstOf d r shown table
-      none-shown l k =
+      last-shown : live ≡ false
+          → (let w = lastRefusal r shown table in
+          First d r shown table w (updated r (advanced d (accepted w) (r .position)) at regs) noStore)
+      last-shown l =
           let q = inv .first l in
           let i-zero = q .0 in
-          let most-less : most < n = omega arith in
-          let full = inv .loop .limit .full most-less in
+          let z = inv .loop .limit .full m in
           let e = last-room d (r .position) (inv .loop .bounds .position) .0 (omega arith) in
-          rw (q .0, q .1, q .2, lt-ltb most n most-less, advance-none d (r .position)) (sym (last-first d r shown table e))
+          rw (q .1, q .2, none-accepted (wrongSizes r shown table), advance-none d (r .position)) (last-first d r shown table e)
 
   module _ {w : ℕ} {at′ : Status} {s : Store} {regs′ mem′ : List ℕ} (f : Steps live d at regs mem (pick live mem shown) table w at′ s regs′ mem′) where
     lived : live ≡ true → Steps true d at regs mem mem table w at′ s regs′ mem′
@@ -83,44 +114,43 @@ module _ (live : Bool) (mem shown : List ℕ) {table : List ℕ} {d : Direction}
     pub run-long : length mem′ ≡ length mem₀
     run-long = steps-long live mem shown f ∙ inv .loop .run .long
 
+    sizes-after : SameSizes (statusOf r) at′
+    sizes-after =
+        let words = pick live mem shown in
+        let z = turned-sizes d (planAt d false at regs words table) (seen at regs words) in
+        let y = inv .loop .sizes in
+        subst⁻¹ (SameSizes (statusOf r)) (f .status) (record { k = z .k ∙ y .k; m = z .m ∙ y .m; n = z .n ∙ y .n })
+
     -- it goes on where the turn is accepted and live
     pub run-again : i < most → eqb w 0 && live ≡ true → Running live table d n most r mem₀ at′ regs′ mem′ (i + 1)
     run-again h z =
         let q = and-true (eqb w 0) live z in
         record { loop = again (inv .loop) (lived (q .1)) h (eqb-true w 0 (q .0)); first = λ l. absurd (true≢false (sym (q .1) ∙ l)) }
 
-    -- k: the turns that it comes to, one more where that is only shown
-    module _ {k : ℕ} (h : i < most) (c : k ≡ pick (eqb w 0) (i + 1) i) where
-      pub run-counted : k ≤ room d (r .position)
-      run-counted = go (eqb w 0) c
-        where
-          go : (b : Bool) → k ≡ pick b (i + 1) i → k ≤ room d (r .position)
-          go true e = let a = inv .loop .limit .inside in omega arith
-          go false e = let a = inv .loop .limit .inside in omega arith
+    pub run-stop : {a : Ran} → i < most → eqb w 0 && live ≡ false → a ≡ record { turns = i; refusal = w; at = at′; regs = regs′; store = s }
+        → Runs live d n r mem₀ shown table a mem′
+    run-stop h z =
+        runs i w at′ regs′ s mem′ sizes-after (λ l. stop (inv .loop) (lived l) h (refused l)) run-room (λ l k. one-shown l) (λ l k. one-counted (eqb w 0))
+      where
+        refused : live ≡ true → w ≢ 0
+        refused l e = true≢false (sym (ap₂ (λ (b c : Bool). b && c) (eq-eqb w 0 e) l) ∙ z)
 
-      pub run-stop : {a : Ran} → eqb w 0 && live ≡ false
-          → a ≡ record { turns = i; refusal = w; state = updated r (advanced d k (r .position)) at′ regs′; store = s } → Runs live d n r mem₀ shown table a mem′
-      run-stop {a} z q =
-          let e = q ∙ ap (λ (t : ℕ). record { turns = i; refusal = w; state = updated r (advanced d t (r .position)) at′ regs′; store = s }) c in
-          record {
-            batch = λ l. subst (λ (b : Batch). BatchPromise d n r mem₀ table b mem′) (sym (ap batchIn e)) (stop (inv .loop) (lived l) h (refused l));
-            first = λ l m. e ∙ shown-first l;
-          }
-        where
-          refused : live ≡ true → w ≢ 0
-          refused l e = true≢false (sym (ap₂ (λ (b c : Bool). b && c) (eq-eqb w 0 e) l) ∙ z)
+        inside : most ≤ room d (r .position)
+        inside = inv .loop .limit .inside
 
-          shown-first : live ≡ false
-              → record { turns = i; refusal = w; state = updated r (advanced d (pick (eqb w 0) (i + 1) i) (r .position)) at′ regs′; store = s } ≡ firstOf d r shown table
-          shown-first l =
-              let g = showed l in
-              let i-zero = inv .first l .0 in
-              let inside = inv .loop .limit .inside in
-              let e = last-room d (r .position) (inv .loop .bounds .position) .1 (omega arith) in
-              let a = refusal-is r g e in
-              let b = state-is r g e 0 (r .position) (sym (advance-none d (r .position))) in
-              let c = store-is r g e refl in
-              rw i-zero (λ j. record { turns = 0; refusal = a j; state = b j; store = c j })
+        one-counted : (b : Bool) → pick b 1 0 ≤ room d (r .position)
+        one-counted true = omega arith
+        one-counted false = omega arith
+
+        one-shown : live ≡ false → First d r shown table w (updated r (advanced d (accepted w) (r .position)) at′ regs′) s
+        one-shown l =
+            let g = showed l in
+            let e = last-room d (r .position) (inv .loop .bounds .position) .1 (omega arith) in
+            record {
+              refusal = refusal-is r g e;
+              state = state-is r g e 0 (r .position) (sym (advance-none d (r .position)));
+              store = store-is r g e refl;
+            }
 
 -- a batch of one is a single turn
 single : (d : Direction) (r : Record) (mem table : List ℕ)

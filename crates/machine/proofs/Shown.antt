@@ -25,21 +25,20 @@ use Rattle.machine.specs.Turn.{from, turned}
 use Rattle.machine.specs.Position.{isLast}
 use Rattle.machine.specs.Calls.{statusOf, viewOf, planOf, turnOf, memoryOf}
 use Rattle.machine.specs.Preview.{plannedStore, storeBy, changes, reported, previewOf, ShowsTurn, Previews, refusedBy, ShowsRefusal}
-use Rattle.machine.specs.InPlace.{firstOf}
+use Rattle.machine.specs.InPlace.{First}
 use Rattle.machine.specs.declared.Record.{Record}
 use Rattle.machine.specs.declared.Turned.{Turned}
 use Rattle.machine.specs.declared.Preview.{Preview}
-use Rattle.machine.specs.declared.Ran.{Ran}
 use Rattle.machine.proofs.Inverse.{plan-fair}
 
 -- ---- the answer, from a run that is not live
 
-pub preview-is : (d : Direction) (r : Record) (mem table : List ℕ) {a : Ran} {present : ℕ} {p : Preview}
-    → a ≡ firstOf d r mem table → present ≡ getD (take (r .m) mem) (a .store .address) 0 → p ≡ reported (a .refusal) (a .state) (a .store) present → p ≡ previewOf d r mem table
-preview-is d r mem table {a = a} h q p =
+pub preview-is : (d : Direction) (r : Record) (mem table : List ℕ) {w : ℕ} {r′ : Record} {s : Store} {present : ℕ} {p : Preview}
+    → First d r mem table w r′ s → present ≡ getD (take (r .m) mem) (s .address) 0 → p ≡ reported w r′ s present → p ≡ previewOf d r mem table
+preview-is d r mem table {w = w} {r′ = r′} {s = s} f q p =
     p
-    ∙ (ap (reported (a .refusal) (a .state) (a .store)) q
-    ∙ ap (λ (x : Ran). reported (x .refusal) (x .state) (x .store) (getD (take (r .m) mem) (x .store .address) 0)) h)
+    ∙ (ap (reported w r′ s) q
+    ∙ (λ j. reported (f .refusal j) (f .state j) (f .store j) (getD (take (r .m) mem) (f .store j .address) 0)))
 
 -- ---- the memory that the turn leaves, by what its plan stores
 

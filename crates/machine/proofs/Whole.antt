@@ -20,10 +20,10 @@ use Rattle.step.specs.View.{nodes}
 use Rattle.step.specs.Sizes.{badSizes}
 use Rattle.step.specs.Step.{noStore, number, refuse}
 use Rattle.machine.specs.Turn.{from, judged, turned, planAt}
-use Rattle.machine.specs.Position.{isLast, advanced, positionAfter}
-use Rattle.machine.specs.Calls.{machineOf, statusOf, updated, viewOf, planOf, viewAfter, turnOf, memoryOf, refusal}
+use Rattle.machine.specs.Position.{end, isLast, advanced, positionAfter}
+use Rattle.machine.specs.Calls.{machineOf, statusOf, updated, viewOf, planOf, viewAfter, turnOf, memoryOf, accepted, refusal}
 use Rattle.machine.specs.Preview.{plannedStore, storeBy}
-use Rattle.machine.specs.InPlace.{Steps, endRefusal, firstOf}
+use Rattle.machine.specs.InPlace.{Steps, lastRefusal, First}
 use Rattle.machine.specs.Claims.{LastRefused}
 use Rattle.machine.specs.declared.Record.{Record}
 use Rattle.machine.specs.declared.Turned.{Turned}
@@ -71,10 +71,14 @@ unfolding refuse
 ten-or-21 true = refl
 ten-or-21 false = refl
 
-plan-last : (d : Direction) (at : Status) (regs mem table : List ℕ) → planAt d true at regs mem table ≡ Refused (endRefusal true at (take (at .m) mem) (nodes at table))
+plan-last : (d : Direction) (at : Status) (regs mem table : List ℕ) → planAt d true at regs mem table ≡ Refused (pick (badSizes at (take (at .m) mem) (nodes at table)) 10 21)
 unfolding judged refuse
 plan-last Forward at regs mem table = ten-or-21 (badSizes at (take (at .m) mem) (nodes at table))
 plan-last Back at regs mem table = ten-or-21 (badSizes at (take (at .m) mem) (nodes at table))
+
+pub none-accepted : (b : Bool) → accepted (pick b 10 21) ≡ 0
+none-accepted true = refl
+none-accepted false = refl
 
 ten-or-21-above : (b : Bool) → _≢_ {A = ℕ} (pick b 10 21) 0
 ten-or-21-above true e = omega arith
@@ -82,7 +86,7 @@ ten-or-21-above false e = omega arith
 
 module _ (d : Direction) (R : Record) (mem table : List ℕ) (e : isLast d (R .position) ≡ true) where
   abbrev number-last : ℕ
-  number-last = endRefusal true (statusOf R) (take (R .m) mem) (nodes (statusOf R) table)
+  number-last = lastRefusal R mem table
 
   last-is : planOf d R mem table ≡ Refused number-last
   last-is = ap (λ (b : Bool). planAt d b (statusOf R) (R .regs) mem table) e ∙ plan-last d (statusOf R) (R .regs) mem table
@@ -93,15 +97,18 @@ module _ (d : Direction) (R : Record) (mem table : List ℕ) (e : isLast d (R .p
   pub last-stands : refusal table d (machineOf R mem) ≢ 0
   last-stands z = ten-or-21-above (badSizes (statusOf R) (take (R .m) mem) (nodes (statusOf R) table)) (sym last-refusal ∙ z)
 
-  pub last-first : firstOf d R mem table ≡ record { turns = 0; refusal = number-last; state = R; store = noStore }
+  pub last-first : First d R mem table number-last R noStore
   last-first =
-      ap (λ (a : Attempt). record {
-        turns = 0;
-        refusal = number a;
-        state = updated R (positionAfter d a (R .position)) (turned d a (viewOf R mem) .at) (turned d a (viewOf R mem) .regs);
-        store = plannedStore a (from d (viewOf R mem));
-      })
-      last-is
+      record {
+        refusal = sym last-refusal;
+        state = sym (ap (λ (a : Attempt). updated R (positionAfter d a (R .position)) (turned d a (viewOf R mem) .at) (turned d a (viewOf R mem) .regs)) last-is);
+        store = sym (ap (λ (a : Attempt). plannedStore a (from d (viewOf R mem))) last-is);
+      }
+
+end-last : (d : Direction) → isLast d (end d) ≡ true
+end-last Forward = refl
+end-last Back = refl
 
 pub last-refused : LastRefused
-last-refused d r mem table a mem′ p e = ap (λ (t : Turned). t .refusal) (p .answer) ∙ last-refusal d r mem table e
+last-refused d r mem table a mem′ p e =
+    ap (λ (t : Turned). t .refusal) (p .answer) ∙ last-refusal d r mem table (ap (isLast d) e ∙ end-last d)

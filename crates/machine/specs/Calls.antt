@@ -28,6 +28,10 @@ statusOf r = record { qifv = r .qifv; qifw = r .qifw; k = r .k; m = r .m; n = r 
 abbrev pub viewOf : Record → List ℕ → View
 viewOf r mem = seen (statusOf r) (r .regs) mem
 
+-- the record of a status, registers and a position
+abbrev pub recordAt : Status → List ℕ → ℤ → Record
+recordAt at regs p = record { regs = regs; qifv = at .qifv; qifw = at .qifw; k = at .k; m = at .m; n = at .n; position = p }
+
 -- r with the position, the registers, the node and the wait count that turns left
 abbrev pub updated : Record → ℤ → Status → List ℕ → Record
 updated r p at regs = record { regs = regs; qifv = at .qifv; qifw = at .qifw; k = r .k; m = r .m; n = r .n; position = p }

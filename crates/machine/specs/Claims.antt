@@ -3,7 +3,6 @@
 use Prim.Native.Nat.{ℕ}
 use mathlib.Core.Path.{_≡_}
 use mathlib.Core.Logic.{_≢_}
-use mathlib.Core.Bool.{true}
 use mathlib.Core.List.{List}
 use lib.ListN.{drop}
 use Rattle.word.specs.Word.{pick}
@@ -11,7 +10,7 @@ use Rattle.step.specs.declared.Direction.{Direction}
 use Rattle.step.specs.declared.Direction.the-variants.{Forward, Back}
 use Rattle.step.specs.View.{flip}
 use Rattle.machine.specs.Calls.{Machine, machineOf, Bounded, TurnPromise, wrongSizes, refusal, next, Leads}
-use Rattle.machine.specs.Position.{isLast}
+use Rattle.machine.specs.Position.{end}
 use Rattle.machine.specs.declared.Record.{Record}
 use Rattle.machine.specs.declared.Turned.{Turned}
 
@@ -54,5 +53,5 @@ pub record OnCalls : Type 0 where
 -- proofs/Whole.
 abbrev pub LastRefused : Type 0
 LastRefused =
-    (d : Direction) (r : Record) (mem table : List ℕ) (a : Turned) (mem′ : List ℕ) → TurnPromise d r mem table a mem′ → isLast d (r .position) ≡ true
+    (d : Direction) (r : Record) (mem table : List ℕ) (a : Turned) (mem′ : List ℕ) → TurnPromise d r mem table a mem′ → r .position ≡ end d
     → a .refusal ≡ pick (wrongSizes r mem table) 10 21

@@ -1,6 +1,6 @@
 -- What the parts of a turn in place promise (src/cycle.rt), and a run of turns (src/lib.rt): of a status, and of registers,
 -- memory and table that are lent. A turn in place is one before the last position: the run makes no more than those.
-use Prim.Native.Nat.{ℕ, _+_, _-_, _<_}
+use Prim.Native.Nat.{ℕ, _+_, _-_, _<_, _≤_}
 use mathlib.Core.Path.{_≡_}
 use mathlib.Core.Bool.{Bool, true, false}
 use mathlib.Core.List.{List, _++_}
@@ -15,10 +15,10 @@ use Rattle.step.specs.declared.Attempt.{Attempt}
 use Rattle.step.specs.declared.Attempt.the-variants.{Does}
 use Rattle.step.specs.declared.Store.{Store}
 use Rattle.step.specs.View.{View, seen}
-use Rattle.step.specs.Sizes.{badSizes}
 use Rattle.step.specs.Step.{written, noStore, storeOf, stored, performed, number}
 use Rattle.machine.specs.Turn.{from, newPc, planAt, turnedAt}
-use Rattle.machine.specs.Calls.{turnOf}
+use Rattle.machine.specs.Position.{advanced}
+use Rattle.machine.specs.Calls.{recordAt, wrongSizes, turnOf, accepted}
 use Rattle.machine.specs.Batch.{BatchPromise}
 use Rattle.machine.specs.Preview.{plannedStore, storeBy}
 use Rattle.machine.specs.declared.Record.{Record}
@@ -63,20 +63,27 @@ room Forward (negsuc n) = 9223372036854775808 + n
 room Back (pos n) = 9223372036854775808 + n
 room Back (negsuc n) = 9223372036854775807 - n
 
--- what ends it at the last position, where more turns are asked for
-abbrev pub endRefusal : Bool → Status → List ℕ → List ℕ → ℕ
-endRefusal more at l t = pick more (pick (badSizes at l t) 10 21) 0
+-- the refusal at the last position
+abbrev pub lastRefusal : Record → List ℕ → List ℕ → ℕ
+lastRefusal r mem table = pick (wrongSizes r mem table) 10 21
 
-abbrev pub batchIn : Ran → Batch
-batchIn a = record { turns = a .turns; refusal = a .refusal; state = a .state }
+-- the record k turns further, by what a run came to
+abbrev pub recordBy : Direction → ℕ → Record → Ran → Record
+recordBy d k r a = recordAt (a .at) (a .regs) (advanced d k (r .position))
 
--- the first turn, and what it would store
-abbrev pub firstOf : Direction → Record → List ℕ → List ℕ → Ran
-firstOf d r mem table =
-    let t = turnOf d r mem table in
-    record { turns = 0; refusal = t .refusal; state = t .state; store = storeBy d r mem table }
+abbrev pub batchBy : Direction → Record → Ran → Batch
+batchBy d r a = record { turns = a .turns; refusal = a .refusal; state = recordBy d (a .turns) r a }
 
--- one that is live is a batch of n; one that is not answers the first turn
+-- the first turn: its refusal w, the record r′ after it, and what it would store
+pub record First (d : Direction) (r : Record) (mem table : List ℕ) (w : ℕ) (r′ : Record) (s : Store) : Type 0 where
+  pub refusal : w ≡ turnOf d r mem table .refusal
+  pub state : r′ ≡ turnOf d r mem table .state
+  pub store : s ≡ storeBy d r mem table
+
+-- one that is live is a batch of n; one that is not tells of the first turn; and there is room for what either counts
 pub record Runs (live : Bool) (d : Direction) (n : ℕ) (r : Record) (mem shown table : List ℕ) (a : Ran) (mem′ : List ℕ) : Type 0 where
-  pub batch : live ≡ true → BatchPromise d n r mem table (batchIn a) mem′
-  pub first : live ≡ false → 0 < n → a ≡ firstOf d r shown table
+  pub batch : live ≡ true → BatchPromise d n r mem table (batchBy d r a) mem′
+  pub made : live ≡ true → a .turns ≤ room d (r .position)
+  pub first : live ≡ false → 0 < n → First d r shown table (a .refusal) (recordBy d (accepted (a .refusal)) r a) (a .store)
+  pub counted : live ≡ false → 0 < n → accepted (a .refusal) ≤ room d (r .position)
+  pub m : a .at .m ≡ r .m

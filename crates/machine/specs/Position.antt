@@ -14,6 +14,11 @@ largest = pos 9223372036854775807
 abbrev pub smallest : ℤ
 smallest = negsuc 9223372036854775807
 
+-- the last this way
+abbrev pub end : Direction → ℤ
+end Forward = largest
+end Back = smallest
+
 -- refusal 21: there is none further this way
 abbrev pub isLast : Direction → ℤ → Bool
 isLast Forward p = leZ largest p

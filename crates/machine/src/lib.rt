@@ -1,15 +1,13 @@
 // The register record and its turns.
 ghost use mathlib.Core.Path.{_≡_};
 ghost use Prim.Native.Nat.{_≤_};
-ghost use lib.ListN.{take};
 ghost use Rattle.qins.specs.Decode.{isInstruction};
-ghost use Rattle.step.specs.View.{nodes};
 ghost use Rattle.step.specs.declared.Direction.{Direction};
-ghost use Rattle.machine.specs.Calls.{statusOf, updated, zeros, wrongSizes, TurnPromise};
+ghost use Rattle.machine.specs.Calls.{statusOf, recordAt, zeros, wrongSizes, TurnPromise};
 ghost use Rattle.machine.specs.Batch.{BatchPromise};
 ghost use Rattle.machine.specs.Preview.{reported, PreviewPromise};
 ghost use Rattle.machine.specs.Position.{advanced};
-ghost use Rattle.machine.specs.InPlace.{room, endRefusal, Runs};
+ghost use Rattle.machine.specs.InPlace.{room, lastRefusal, Runs};
 
 mod cycle;
 mod position;
@@ -22,8 +20,8 @@ use step::lent::word_at;
 use step::perform::no_store;
 
 // Document 01's record: registers 0 pc, 1 br, 2 ro, 3 sp, 4-15 r1-r12; the node qifv and the wait
-// count qifw; and the sizes: K words of code, M of memory, N nodes. And document 02's position: the
-// accepted turns forward less those back.
+// count qifw; and the sizes: K words of code, M of memory, N nodes. And document 02's position, from
+// any value: one more for each accepted turn forward, one less for each back.
 #[repr(C)]
 pub struct Record {
     pub regs: [u32; 16],
@@ -35,11 +33,12 @@ pub struct Record {
     pub position: i64,
 }
 
-// What a turn answers: the refusal, 0 for none, and the new record.
+// What a turn answers: the new record and the refusal, 0 for none. The record is first, since a gap
+// before it would have it copied out of step with how it was written.
 #[repr(C)]
 pub struct Turned {
-    pub refusal: u32,
     pub state: Record,
+    pub refusal: u32,
 }
 
 // What a batch answers: the turns made, k, the refusal of the next one where they are fewer than asked for,
@@ -62,12 +61,43 @@ pub struct Preview {
     pub state: Record,
 }
 
-// What a run comes to: as a batch answers, and what its turn would store if it is not live.
+// What a run comes to: the turns made and the refusal as a batch answers them, the status and the
+// registers after them, and what its turn would store if it is not live. The record is not among it:
+// each caller builds its own, which is then copied less.
 struct Ran {
     turns: u32,
     refusal: u32,
-    state: Record,
+    at: Status,
+    regs: [u32; 16],
     store: Store,
+}
+
+fn ends(turns: u32, refusal: u32, at: Status, regs: [u32; 16], store: Store) -> Ran
+    ensures { λ r. ⌜ r ≡ record { turns = turns; refusal = refusal; at = at; regs = regs; store = store } ⌝ }
+{
+    Ran {
+        turns,
+        refusal,
+        at,
+        regs,
+        store,
+    }
+}
+
+// The record of a status, registers and the position k turns further than p.
+fn record_at(at: Status, regs: [u32; 16], d: Direction, k: u32, p: i64) -> Record
+    requires { ⌜ k ≤ room d p ⌝ }
+    ensures { λ r. ⌜ r ≡ recordAt at regs (advanced d k p) ⌝ }
+{
+    Record {
+        regs,
+        qifv: at.qifv,
+        qifw: at.qifw,
+        k: at.k,
+        m: at.m,
+        n: at.n,
+        position: position::advance(d, k, p),
+    }
 }
 
 // What a preview reports: the turn, and the word that it would store where another one is present.
@@ -82,14 +112,6 @@ fn report(refusal: u32, state: Record, s: Store, present: u32) -> Preview
         value: word::choose(changes, s.value, 0),
         state,
     }
-}
-
-// The refusal of a turn that the position has no room for, if there is one.
-fn end_refusal(more: bool, at: Status, mem: &[u32], table: &[u32]) -> u32
-    ensures { λ r. ⌜ r ≡ endRefusal more at (take (at .m) (now (mem .entry))) (nodes at (now (table .entry))) ⌝ }
-{
-    let refusal = word::choose(step::sizes::are_bad_sizes(at, mem, table), 10, 21);
-    word::choose(more, refusal, 0)
 }
 
 impl Record {
@@ -127,42 +149,6 @@ impl Record {
         }
     }
 
-    // The record k turns further, with what they leave of its registers and status.
-    fn update(self, d: Direction, k: u32, at: Status, regs: [u32; 16]) -> Record
-        requires { ⌜ k ≤ room d (self .position) ⌝ }
-        ensures { λ r. ⌜ r ≡ updated self (advanced d k (self .position)) at regs ⌝ }
-    {
-        let mut next = self;
-        next.regs = regs;
-        next.qifv = at.qifv;
-        next.qifw = at.qifw;
-        next.position = position::advance(d, k, self.position);
-        next
-    }
-
-    // What a run answers that made so many turns, or showed one more: k in all.
-    fn answer(
-        self,
-        d: Direction,
-        k: u32,
-        turns: u32,
-        refusal: u32,
-        at: Status,
-        regs: [u32; 16],
-        store: Store,
-    ) -> Ran
-        requires { ⌜ k ≤ room d (self .position) ⌝ }
-        ensures { λ r. ⌜ r ≡ record { turns = turns; refusal = refusal; state = updated self (advanced d k (self .position)) at regs; store = store } ⌝ }
-    {
-        let state = self.update(d, k, at, regs);
-        Ran {
-            turns,
-            refusal,
-            state,
-            store,
-        }
-    }
-
     // Refusal 10: sizes out of range, or lent memory or table too short.
     pub fn has_bad_sizes(self, mem: &[u32], table: &[u32]) -> bool
         ensures { λ r. ⌜ r ≡ wrongSizes self (now (mem .entry)) (now (table .entry)) ⌝ }
@@ -170,10 +156,17 @@ impl Record {
         step::sizes::are_bad_sizes(self.status(), mem, table)
     }
 
+    // The refusal of a turn at the last position.
+    fn last_refusal(self, mem: &[u32], table: &[u32]) -> u32
+        ensures { λ r. ⌜ r ≡ lastRefusal self (now (mem .entry)) (now (table .entry)) ⌝ }
+    {
+        word::choose(self.has_bad_sizes(mem, table), 10, 21)
+    }
+
     // Turns until n are made or one is refused; where it is not live, it answers the first turn of them,
     // made over shown, which is only read. The registers are taken out of the record once and put back
-    // once, and the loop ends before the last position, so that no turn looks at it. The turn has this
-    // one caller, whatever is asked, so that it is inlined into the loop.
+    // once, and no more are made than the position has room for, so that no turn looks at it. The turn
+    // has this one caller, whatever is asked, so that it is inlined into the loop.
     fn run(
         self,
         d: Direction,
@@ -195,22 +188,27 @@ impl Record {
             let next = t.at;
             let store = t.store;
             if !word::both(refusal == 0, live) {
-                let k = word::choose(refusal == 0, i + 1, i);
-                return self.answer(d, k, i, refusal, next, regs, store);
+                return ends(i, refusal, next, regs, store);
             }
             at = next;
             i += 1;
         }
-        let refusal = end_refusal(most < n, at, select(live, mem, shown), table);
-        self.answer(d, i, i, refusal, at, regs, no_store())
+        if most < n {
+            let refusal = self.last_refusal(select(live, mem, shown), table);
+            return ends(i, refusal, at, regs, no_store());
+        }
+        ends(i, 0, at, regs, no_store())
     }
 
     fn batch(self, d: Direction, n: u32, mem: &mut [u32], table: &[u32]) -> Batch
         ensures { λ r. ⌜ BatchPromise d n self (now (mem .entry)) (now (table .entry)) r (now (mem .exit)) ⌝ }
     {
         let none = [0; 0];
+        let p = self.position;
         let r = self.run(d, n, true, mem, &none, table);
-        let state = r.state;
+        let at = r.at;
+        let regs = r.regs;
+        let state = record_at(at, regs, d, r.turns, p);
         Batch {
             turns: r.turns,
             refusal: r.refusal,
@@ -223,8 +221,11 @@ impl Record {
         ensures { λ r. ⌜ TurnPromise d self (now (mem .entry)) (now (table .entry)) r (now (mem .exit)) ⌝ }
     {
         let none = [0; 0];
+        let p = self.position;
         let r = self.run(d, 1, true, mem, &none, table);
-        let state = r.state;
+        let at = r.at;
+        let regs = r.regs;
+        let state = record_at(at, regs, d, r.turns, p);
         Turned {
             refusal: r.refusal,
             state,
@@ -236,10 +237,13 @@ impl Record {
         ensures { λ r. ⌜ PreviewPromise d self (now (mem .entry)) (now (table .entry)) r ⌝ }
     {
         let mut none = [0; 0];
+        let p = self.position;
         let r = self.run(d, 1, false, &mut none, mem, table);
-        let state = r.state;
+        let at = r.at;
+        let regs = r.regs;
+        let state = record_at(at, regs, d, word::choose(r.refusal == 0, 1, 0), p);
         let s = r.store;
-        let present = word_at(mem, self.m, s.address);
+        let present = word_at(mem, at.m, s.address);
         report(r.refusal, state, s, present)
     }
 

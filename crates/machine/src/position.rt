@@ -29,10 +29,13 @@ fn room(d: Direction, p: i64) -> u64
     }
 }
 
-// As many of n turns as there is room for.
+// As many of n turns as there is room for. Far from both ends, where most positions are, that is n.
 pub(crate) fn limit(d: Direction, p: i64, n: u32) -> u32
     ensures { λ r. ⌜ r ≡ pick (ltb (room d p) n) (room d p) n ⌝ }
 {
+    if word::signed::magnitude(p) < 4611686018427387904 {
+        return n;
+    }
     let left = room(d, p);
     if left < n as u64 {
         return left as u32;

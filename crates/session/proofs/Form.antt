@@ -209,7 +209,7 @@ abbrev pub rec-val : Record → Val
 rec-val r = LL.val R.the-type R′.the-laws r
 
 pub is-state : (F : Form) (t : Answer F) (vs : List Val) → Is (answer-row F) t vs → Is R.the-row (state F t) (rec-val (state F t) ∷ [])
-is-state turn t vs is = LL.owed U.the-type U′.the-laws t vs is .1 .0
+is-state turn t vs is = LL.owed U.the-type U′.the-laws t vs is .0
 is-state batch t vs is = LL.owed S.the-type S′.the-laws t vs is .1 .1 .0
 is-state samples t vs is = LL.owed G.the-type G′.the-laws t vs is .1 .1 .1 .1 .1 .0
 
@@ -236,7 +236,7 @@ result-val batch t = LL.val K.the-type K′.the-laws (result batch t)
 result-val samples t = LL.val P.the-type P′.the-laws (result samples t)
 
 pub is-result : (F : Form) (t : Answer F) (vs : List Val) → Is (answer-row F) t vs → Is (row F) (result F t) (result-val F t ∷ [])
-is-result turn t vs is = LL.owed U.the-type U′.the-laws t vs is .0
+is-result turn t vs is = LL.owed U.the-type U′.the-laws t vs is .1 .0
 is-result batch t vs is =
     let o = LL.owed S.the-type S′.the-laws t vs is in
     LL.owes K.the-type K′.the-laws (result batch t) (o .0, (o .1 .0, tt))
@@ -260,12 +260,12 @@ abbrev pub of-answer : Form → ℕ → Opd
 of-answer F i = copy (place (past F 5) (field i ∷ []))
 
 abbrev pub state-field : Form → ℕ
-state-field turn = 1
+state-field turn = 0
 state-field batch = 2
 state-field samples = 5
 
 abbrev pub result-of : Form → Rv
-result-of turn = rvOpd (of-answer turn 0)
+result-of turn = rvOpd (of-answer turn 1)
 result-of batch = aggregate (of-answer batch 0 ∷ of-answer batch 1 ∷ [])
 result-of samples = aggregate (of-answer samples 0 ∷ of-answer samples 1 ∷ of-answer samples 2 ∷ of-answer samples 3 ∷ of-answer samples 4 ∷ [])
 

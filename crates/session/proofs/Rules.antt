@@ -154,13 +154,13 @@ module _ {M : Type 1} {𝓤 : URA M} {H : Heap 𝓤} {A : Atoms 𝓤} {K : Type 
 
   pub reads-state : K → (F : Form) (l : ℕ) (t : Answer F) → Stands K W (‵ (fat fullShare (answer-mir F) l 0 (answer-val F t)) ∷ Γ) E (past F 5) (answer-mir F) l
       → Opd K W (‵ (fat fullShare (answer-mir F) l 0 (answer-val F t)) ∷ Γ) E (of-answer F (state-field F)) (rec-val (state F t))
-  reads-state k turn l t stands = reads-field k stands 1 refl
+  reads-state k turn l t stands = reads-field k stands 0 refl
   reads-state k batch l t stands = reads-field k stands 2 refl
   reads-state k samples l t stands = reads-field k stands 5 refl
 
   pub reads-result : K → (F : Form) (l : ℕ) (t : Answer F) → Stands K W (‵ (fat fullShare (answer-mir F) l 0 (answer-val F t)) ∷ Γ) E (past F 5) (answer-mir F) l
       → Rv K W (‵ (fat fullShare (answer-mir F) l 0 (answer-val F t)) ∷ Γ) E (result-of F) (result-val F t)
-  reads-result k turn l t stands = of-opd k (reads-field k stands 0 refl)
+  reads-result k turn l t stands = of-opd k (reads-field k stands 1 refl)
   reads-result k batch l t stands = agg k (and-then k (reads-field k stands 0 refl) (and-then k (reads-field k stands 1 refl) (no-more k)))
   reads-result k samples l t stands =
       agg k (and-then k (reads-field k stands 0 refl) (and-then k (reads-field k stands 1 refl) (and-then k (reads-field k stands 2 refl)

@@ -5,7 +5,7 @@ ghost use lib.Signed.{mag};
 ghost use mir.Syntax.{w64};
 ghost use mir.Val.{ofZ, toZ};
 
-// p or, below 0, -1 - p.
+// p or, below 0, -1 - p, as the kit has it.
 pub fn magnitude(p: i64) -> u64
     ensures { λ r. ⌜ r ≡ mag p ⌝ }
 {

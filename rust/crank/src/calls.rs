@@ -10,9 +10,9 @@ use std::mem::offset_of;
 #[repr(C)]
 #[derive(Clone, Copy, Debug, PartialEq, Eq)]
 pub struct Turned {
-    pub refusal: u32,
     /// The record after the turn; refused, the record given.
     pub state: Record,
+    pub refusal: u32,
 }
 
 /// What a preview answers: what the turn would do.
@@ -109,7 +109,8 @@ pub struct Sampled {
 
 // As the header has them.
 const _: () = assert!(size_of::<Record>() == 96 && offset_of!(Record, position) == 88);
-const _: () = assert!(size_of::<Turned>() == 104 && size_of::<Loaded>() == 104);
+const _: () = assert!(size_of::<Turned>() == 104 && offset_of!(Turned, refusal) == 96);
+const _: () = assert!(size_of::<Loaded>() == 104 && offset_of!(Loaded, state) == 8);
 const _: () = assert!(size_of::<Preview>() == 112);
 const _: () = assert!(size_of::<Batch>() == 104 && size_of::<Bench>() == 96);
 const _: () = assert!(size_of::<Checked>() == 8 && size_of::<Cranked>() == 8);

@@ -6,7 +6,7 @@ use mir.Syntax.{w64}
 use mir.Val.{SFits}
 use borrow.Author.Tests.{not-true, not-false}
 use Rattle.machine.proofs.Given.{given-bounds}
-use Rattle.machine.proofs.Runs.{Running, running-starts, run-room, run-done, run-long, run-again, run-counted, run-stop}
+use Rattle.machine.proofs.Runs.{Running, running-starts, run-done, run-full, run-long, run-again, run-stop}
 use borrow.Author.Needs.{needs}
 use Rattle.machine.proofs.Record.run.Statement.{statement}
 use Rattle.machine.proofs.Record.run.Tie as tie
@@ -31,25 +31,18 @@ run-spec =
     running-starts {r = g .self} (c .before .before .status .ensures) f (c .limit .ensures)
     (given-bounds (g .self) (now (g .mem)) (search needs) (λ a. search needs) (s .slice-known .given) f))
     (λ c. sym (c .before .before .loop .inv .loop .sixteen))
-    (λ c κs. search needs) (λ c κs. search needs)
-    (λ c. let t = c .before .before .before .before .before .before .before .before .before .before .loop-test .taken in omega arith)
-    (λ c κs. search needs)
-    (λ c κs.
-    let t = c .before .before .before .before .before .before .before .before in
-    let l = t .before .before .before .before in
-    let g = l .before .before .before .before .before .before .before .before .args in
-    run-counted (g .live) (l .loop .mem) (now (g .shown)) (l .loop .inv) (t .turn .ensures) (t .before .before .before .loop-test .taken) (c .choose .ensures))
+    (λ c κs. search needs) (λ c κs. search needs) (λ c κs. search needs)
     (λ c.
-    let t = c .before .before .before .before .before .before .before .before .before in
+    let t = c .before .before .before .before .before .before .before .before in
     let l = t .before .before .before .before in
     let g = l .before .before .before .before .before .before .before .before .args in
     run-long (g .live) (l .loop .mem) (now (g .shown)) (l .loop .inv) (t .turn .ensures))
     (λ c.
-    let t = c .before .before .before .before .before .before .before .before .before in
+    let t = c .before .before .before .before .before .before .before .before in
     let l = t .before .before .before .before in
     let g = l .before .before .before .before .before .before .before .before .args in
     run-stop (g .live) (l .loop .mem) (now (g .shown)) (l .loop .inv) (t .turn .ensures) (t .before .before .before .loop-test .taken)
-    (c .before .choose .ensures) (sym (c .before .before .before .both .ensures) ∙ not-true _ (c .before .before .if1 .taken)) (c .answer .ensures))
+    (sym (c .before .before .both .ensures) ∙ not-true _ (c .before .if1 .taken)) (c .ends .ensures))
     (λ c. let t = c .before .before .before .before .before .before .before .before .before .before .loop-test .taken in omega arith)
     (λ c. let t = c .before .before .before .before .before .before .before .before .before .before .loop-test .taken in omega arith)
     (λ c.
@@ -58,14 +51,18 @@ run-spec =
     let g = l .before .before .before .before .before .before .before .before .args in
     run-again (g .live) (l .loop .mem) (now (g .shown)) (l .loop .inv) (t .turn .ensures) (t .before .before .before .loop-test .taken)
     (sym (c .before .both .ensures) ∙ not-false _ (c .if1 .left)))
-    (λ c κs. search needs) (λ c κs. search needs) (λ c κs. search needs)
-    (λ c κs.
-    let l = c .before .before .before .before .before in
-    let g = l .before .before .before .before .before .before .before .before .args in
-    run-room (g .live) (l .loop .mem) (now (g .shown)) (l .loop .inv))
-    (λ c. c .before .before .before .before .before .before .loop .inv .loop .run .long)
+    (λ c κs. search needs) (λ c κs. search needs) (λ c κs. search needs) (λ c κs. search needs)
+    (λ c. c .before .before .before .before .before .before .before .loop .inv .loop .run .long)
     (λ c.
-    let l = c .before .before .before .before .before .before in
+    let t = c .before .before .before .before .before in
+    let l = t .before .before in
     let g = l .before .before .before .before .before .before .before .before .args in
-    run-done (g .live) (l .loop .mem) (now (g .shown)) (l .loop .inv) (c .before .before .before .before .before .loop-test .left)
-    (c .before .before .before .select .ensures) (c .before .before .end-refusal .ensures) (c .before .no-store .ensures) (c .answer2 .ensures)))
+    run-full (g .live) (l .loop .mem) (now (g .shown)) (l .loop .inv) (t .before .loop-test .left) (t .if2 .taken)
+    (c .before .before .before .select .ensures) (c .before .before .last-refusal .ensures) (c .before .no-store .ensures) (c .ends2 .ensures))
+    (λ c κs. search needs) (λ c κs. search needs)
+    (λ c. c .before .before .before .before .loop .inv .loop .run .long)
+    (λ c.
+    let t = c .before .before in
+    let l = t .before .before in
+    let g = l .before .before .before .before .before .before .before .before .args in
+    run-done (g .live) (l .loop .mem) (now (g .shown)) (l .loop .inv) (t .before .loop-test .left) (t .if2 .left) (c .ends3 .ensures)))
