@@ -23,7 +23,13 @@ pick-zero : (t : Bool) (n : ℕ) {rest : ℕ} → 0 < n → pick t n rest ≡ 0 
 pick-zero true n h e = absurd (omega (arith, e))
 pick-zero false n h e = (refl, e)
 
-pub file-accepted : (s : List ℕ) (rest : ℕ) → fileRefusal s rest ≡ 0 → (backIn s ≤ length s) × (rest ≡ 0)
+-- what the file's refusal of 0 tells
+pub record Passed (s : List ℕ) (rest : ℕ) : Type 0 where
+  pub range : inRange (statusOf (stateIn s)) ≡ true
+  pub within : backIn s ≤ length s
+  pub last : rest ≡ 0
+
+pub file-accepted : (s : List ℕ) (rest : ℕ) → fileRefusal s rest ≡ 0 → Passed s rest
 unfolding fileRefusal
 file-accepted s rest h =
     let p = pick-zero (badLength s) 1 (omega arith) h in
@@ -32,7 +38,7 @@ file-accepted s rest h =
     let r = pick-zero (not (inRange (statusOf (stateIn s)))) 3 (omega arith) (w .1) in
     let t = pick-zero (not (eqb (wordAt (trailerIn s) backAt) (backIn s))) 4 (omega arith) (r .1) in
     let u = pick-zero (ltb (length s) (backIn s)) 5 (omega arith) (t .1) in
-    (ltb-false (length s) (backIn s) (u .0), u .1)
+    record { range = not-false _ (r .0); within = ltb-false (length s) (backIn s) (u .0); last = u .1 }
 
 -- what load goes on with, r being the record as it read it
 pub record Loadable (s mem table : List ℕ) (r : Record) : Type 0 where
@@ -44,10 +50,10 @@ pub load-accepted : (s mem table : List ℕ) {n : ℕ} {r : Record} → n ≡ lo
 load-accepted s mem table f z e =
     let h = sym f ∙ z in
     let p = file-accepted s (pick (not (isEnough (statusOf (stateIn s)) (length mem) (length table))) 6 0) h in
-    let t = pick-zero (not (isEnough (statusOf (stateIn s)) (length mem) (length table))) 6 (omega arith) (p .1) in
+    let t = pick-zero (not (isEnough (statusOf (stateIn s)) (length mem) (length table))) 6 (omega arith) (p .last) in
     let q = and-true (leb (stateIn s .m) (length mem)) (leb (tableWords (stateIn s .n)) (length table)) (not-false _ (t .0)) in
     record {
-      within = rw e (let h = p .0 in omega arith);
+      within = rw e (let h = p .within in omega arith);
       memory = rw e (leb-true _ _ (q .0));
       links = rw e (leb-true _ _ (q .1));
     }

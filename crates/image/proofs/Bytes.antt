@@ -17,7 +17,7 @@ unfolding bytesOf
 length-bytes [] = refl
 length-bytes (w ∷ ws) = let e = length-bytes ws in omega arith
 
-length-words : (n : ℕ) (s : List ℕ) → length (wordsOf n s) ≡ n
+pub length-words : (n : ℕ) (s : List ℕ) → length (wordsOf n s) ≡ n
 unfolding wordsOf
 length-words zero s = refl
 length-words (suc n) s = let e = length-words n s in simp length-append (omega arith)

@@ -7,3 +7,4 @@ pub mod Search
 pub mod Accepted
 pub mod Answers
 pub mod RoundTrip
+pub mod BothKinds

@@ -1,9 +1,10 @@
--- Load reads back what save writes, behind any preface. Assumes nothing.
+-- Load reads back what save writes, behind any preface, and leaves what can be saved. Assumes nothing.
 use mathlib.Core.Path.{_≡_, refl, sym, ap, _∙_, subst}
 use mathlib.Core.Bool.{true, not}
 use mathlib.Core.List.{List, _∷_, _++_, append-assoc}
 use Prim.Native.Nat.{ℕ, zero, suc, _+_, _-_, _*_, _≤_}
 use native.Mathlib.Omega.{arith}
+use lib.Dec.{leb}
 use lib.IntN.{ℤ}
 use lib.ListN.{length, getD, take, drop, length-append}
 use lib.Seq.{take-at, take-all, drop-at, length-take-le, getD-append-add}
@@ -12,19 +13,19 @@ use Rattle.word.specs.Word.{pick}
 use Rattle.word.proofs.Bits.{joined}
 use Rattle.step.specs.View.{Words}
 use Rattle.step.specs.Table.{tableWords}
-use Rattle.step.specs.Sizes.{isEnough}
+use Rattle.step.specs.Sizes.{isEnough, badSizes}
 use Rattle.machine.specs.declared.Record.{Record}
 use Rattle.machine.specs.Calls.{statusOf, updated}
 use Rattle.image.specs.declared.kinds.Kind.{Kind}
 use Rattle.image.specs.declared.Loaded.{Loaded}
 use Rattle.image.specs.Format.{bytesOf, wordAt, wordsOf, kinds, newest, oldest, same, kindBy, backAt, mAt, kAt, nAt, regsAt, qifvAt, qifwAt, positionAt, wordCount, trailerLength, backOf, further, tailWords, trailerWords, trailerBytes, recordIn, kept, imageBytes, lastBytes, kindOf, trailerIn, stateIn}
-use Rattle.image.specs.Load.{maxFile, fileRefusal, loadRefusal, LoadPromise, prefaceOf}
-use Rattle.image.specs.Claims.{Backs, Keeps, Row, KindsFound, Restored, ReadsAs, Savable, ImageLength, ImageLoads, SaveAccepts, SavedLoads}
-use Rattle.image.proofs.Bytes.{length-bytes, bytes-append, read-back, words-back}
+use Rattle.image.specs.Load.{maxFile, fileRefusal, loadRefusal, imageIn, filled, LoadPromise, prefaceOf}
+use Rattle.image.specs.Claims.{Backs, Row, KindsFound, TakesBoth, Keeps, Restored, ReadsAs, Savable, ImageLength, ImageLoads, LoadedSaves, SaveAccepts, SavedLoads}
+use Rattle.image.proofs.Bytes.{length-bytes, length-words, bytes-append, read-back, words-back}
 use Rattle.machine.proofs.Given.{words-take}
 use Rattle.image.proofs.Given.{words-cons, words-append}
 use Rattle.image.proofs.Parts.{same-refl}
-use Rattle.image.proofs.Accepted.{Sized, sized, save-accepted}
+use Rattle.image.proofs.Accepted.{file-accepted, Sized, sized, save-accepted}
 
 -- ---- lists
 
@@ -34,6 +35,12 @@ all-back ws s {n} h k = words-back ws s n (omega arith) k ∙ take-all n ws (ome
 
 last-behind : (p q : List ℕ) (n : ℕ) → length q ≡ n → lastBytes n (p ++ q) ≡ q
 last-behind p q n h = drop-at p q (length (p ++ q) - n) (simp length-append (omega arith))
+
+-- n words filled are n
+filled-long : (n : ℕ) (bytes words : List ℕ) → leb n (length (take n (filled n bytes words))) ≡ true
+filled-long n bytes words =
+    let e = length-words n bytes in
+    rw (take-at (wordsOf n bytes) (drop n words) n e, e) (le-leb n n (omega arith))
 
 -- ---- an image of any kind
 
@@ -181,10 +188,17 @@ backs = record { first = λ r. omega arith; second = λ r. omega arith }
 pub keeps : Keeps
 keeps = record { newest = λ r f. ap (λ (p : ℤ). updated r p (statusOf r) (r .regs)) (joined (r .position) f); first = λ r. refl }
 
-pub kinds-found : KindsFound
+pub takes-both : TakesBoth
 unfolding kindBy same
-kinds-found zero h = record { four = refl; found = refl; within = omega arith }
-kinds-found (suc zero) h = record { four = refl; found = refl; within = omega arith }
+takes-both =
+    record {
+      first = record { four = refl; found = refl; within = omega arith };
+      second = record { four = refl; found = refl; within = omega arith };
+    }
+
+pub kinds-found : KindsFound
+kinds-found zero h = takes-both .second
+kinds-found (suc zero) h = takes-both .first
 kinds-found (suc (suc i)) h = absurd (omega (arith, h))
 
 pub image-long : ImageLength
@@ -201,10 +215,17 @@ saved-loads r mem table out out′ s =
     let a = save-accepted (s .decided) refl in
     let z = a .sizes in
     let v : Savable r mem table = record { sizes = a .right; bounds = s .decided .bounds } in
-    let row = kinds-found 0 (omega arith) in
+    let row = takes-both .second in
     let b = backOf newest r in
     let e : take b out′ ≡ imageBytes newest r mem table =
     ap (take b) (s .output ∙ rw (sym (s .decided .answer))) ∙ take-at (imageBytes newest r mem table) (drop b out) b (image-length newest r mem table row v) in (
       omega arith,
       λ p h. rw e (subst (λ (u : Record). ReadsAs (p ++ imageBytes newest r mem table) p u mem table) (keeps .newest r (v .bounds .turn .position)) (reads-back newest r mem table row v p h)),
     )
+
+pub loaded-saves : LoadedSaves
+unfolding badSizes
+loaded-saves s a b x a′ b′ p z =
+    let f : loadRefusal s a b ≡ 0 = ap (λ (l : Loaded). l .refusal) (sym (p .answer)) ∙ z in
+    let g = file-accepted s (pick (not (isEnough (statusOf (stateIn s)) (length a) (length b))) 6 0) f in
+    rw (p .answer, p .memory, p .links, f, g .range, filled-long (stateIn s .m) (imageIn s) a, filled-long (tableWords (stateIn s .n)) (drop (4 * stateIn s .m) (imageIn s)) b)

@@ -1,9 +1,9 @@
--- The laws of images: load reads back what save writes.
+-- The laws of images: what load refuses and answers, and that it reads back what save writes.
 use Prim.Native.Nat.{ℕ, _+_, _*_, _<_, _≤_}
 use mathlib.Core.Path.{_≡_}
 use mathlib.Core.Bool.{true, false}
-use mathlib.Core.List.{List, _++_}
-use lib.IntN.{pos}
+use mathlib.Core.List.{List, [], _∷_, _++_}
+use lib.IntN.{pos, negsuc}
 use lib.ListN.{length, getD, take, drop}
 use mir.Syntax.{w64}
 use mir.Val.{SFits}
@@ -11,10 +11,10 @@ use Rattle.step.specs.Table.{tableWords}
 use Rattle.step.specs.View.{nodes}
 use Rattle.step.specs.Sizes.{isEnough}
 use Rattle.machine.specs.declared.Record.{Record}
-use Rattle.machine.specs.Calls.{statusOf, updated, wrongSizes}
+use Rattle.machine.specs.Calls.{statusOf, updated, zeros, wrongSizes}
 use Rattle.image.specs.declared.kinds.Kind.{Kind}
 use Rattle.image.specs.declared.Loaded.{Loaded}
-use Rattle.image.specs.Format.{qrm1, qrm2, kinds, newest, kindBy, backOf, kept, imageBytes}
+use Rattle.image.specs.Format.{qrm1, qrm2, kinds, newest, same, kindBy, backOf, trailerBytes, kept, imageBytes, lastBytes}
 use Rattle.image.specs.Load.{maxFile, LoadPromise, prefaceOf}
 use Rattle.image.specs.Save.{SaveBounds, SavePromise}
 
@@ -35,10 +35,45 @@ pub record Row (kind : Kind) : Type 0 where
 abbrev pub KindsFound : Type 0
 KindsFound = (i : ℕ) → i < length kinds → Row (getD kinds i newest)
 
+-- Claim: both kinds are such rows, by name
+pub record TakesBoth : Type 0 where
+  pub first : Row qrm1
+  pub second : Row qrm2
+
 -- Claim: the newest kind has all of a record, and the first all but the position, which is then 0
 pub record Keeps : Type 0 where
   pub newest : (r : Record) → SFits w64 (r .position) → kept newest r ≡ r
   pub first : (r : Record) → kept qrm1 r ≡ updated r (pos 0) (statusOf r) (r .regs)
+
+-- Claim: of zeros but for position -2, save's trailer ends in these 12 bytes: the position's 64 bits, low word first, and QRM2
+abbrev pub PositionBytes : Type 0
+PositionBytes =
+    lastBytes 12 (trailerBytes newest (updated zeros (negsuc 1) (statusOf zeros) (zeros .regs)))
+    ≡ 0xFE ∷ 0xFF ∷ 0xFF ∷ 0xFF ∷ 0xFF ∷ 0xFF ∷ 0xFF ∷ 0xFF ∷ 0x51 ∷ 0x52 ∷ 0x4D ∷ 0x32 ∷ []
+
+-- ---- what load answers
+
+-- every load of the file s is refused by n
+abbrev pub RefusedBy : ℕ → List ℕ → Type 0
+RefusedBy n s = (a b : List ℕ) (x : Loaded) (a′ b′ : List ℕ) → LoadPromise s a b x a′ b′ → x .refusal ≡ n
+
+-- Claim: 1 comes first, for any end; then 2, for an end of neither kind; then 1 again, for the second kind under 100 bytes
+pub record LoadOrder : Type 0 where
+  pub under : (s : List ℕ) → length s < 92 → RefusedBy 1 s
+  pub over : (s : List ℕ) → 65536 < length s → RefusedBy 1 s
+  pub neither : (s : List ℕ) → 92 ≤ length s → length s ≤ 65536 → same (lastBytes 4 s) (qrm1 .last) ≡ false → same (lastBytes 4 s) (qrm2 .last) ≡ false
+      → RefusedBy 2 s
+  pub cut : (s : List ℕ) → lastBytes 4 s ≡ qrm2 .last → length s < 100 → RefusedBy 1 s
+
+-- Claim: of a file of the first kind, whatever else is in it, a load answers position 0, accepted or refused
+abbrev pub OldPosition : Type 0
+OldPosition =
+    (s a b : List ℕ) (x : Loaded) (a′ b′ : List ℕ) → LoadPromise s a b x a′ b′ → lastBytes 4 s ≡ qrm1 .last → x .state .position ≡ pos 0
+
+-- Claim: what an accepted load leaves is of right sizes: with room, save accepts it
+abbrev pub LoadedSaves : Type 0
+LoadedSaves =
+    (s a b : List ℕ) (x : Loaded) (a′ b′ : List ℕ) → LoadPromise s a b x a′ b′ → x .refusal ≡ 0 → wrongSizes (x .state) a′ b′ ≡ false
 
 -- ---- what a file is read as
 

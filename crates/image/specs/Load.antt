@@ -27,7 +27,7 @@ hasLast s = same (lastBytes 4 s) (kindOf s .last)
 abbrev pub isCut : List ℕ → Bool
 isCut s = ltb (length s) (trailerLength (kindOf s))
 
--- refusals 1 to 5, in order, and what follows them
+-- refusals 1, 2, 1 and 3 to 5, in this order, and what follows them
 unfoldable pub fileRefusal : List ℕ → ℕ → ℕ
 fileRefusal s rest =
     pick (badLength s) 1

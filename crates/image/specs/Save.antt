@@ -1,4 +1,4 @@
--- Save (document 01, "Image").
+-- Save (document 01, "Image"; document 02, #104).
 use Prim.Native.Nat.{ℕ}
 use mathlib.Core.Path.{_≡_}
 use mathlib.Core.List.{List, _++_}

@@ -1,4 +1,4 @@
-// The trailer: the sizes and registers, and the last four bytes.
+// The trailer: the sizes and registers, the position, and the last four bytes.
 ghost use mathlib.Core.Path.{_≡_};
 ghost use mathlib.Core.List.{_++_};
 ghost use Prim.Native.Nat.{_*_, _^_, _<_, _≤_};
@@ -117,7 +117,7 @@ pub(crate) fn start_of(file: &[u8]) -> usize
     file.len() - back
 }
 
-// Refusals 1 to 5, in order, else rest.
+// Refusals 1, 2, 1 and 3 to 5, in this order, else rest.
 pub(crate) fn file_refusal(file: &[u8], rest: u32) -> u32
     ensures { λ r. ⌜ r ≡ fileRefusal (now (file .entry)) rest ⌝ }
 {

@@ -1,0 +1,92 @@
+-- Both kinds of image: the bytes of a position, what load refuses first, and the position of the first kind. Assumes nothing.
+use Prim.Native.Nat.{ℕ, zero, suc, _*_, _<_, _≤_}
+use mathlib.Core.Path.{_≡_, refl, ap, _∙_}
+use mathlib.Core.Bool.{Bool, true, false}
+use mathlib.Core.List.{List, [], _∷_}
+use native.Mathlib.Omega.{arith}
+use lib.Dec.{eqb}
+use lib.IntN.{pos}
+use lib.ListN.{length, take, drop}
+use borrow.Author.Tests.{lt-ltb, le-leb, lt-leb}
+use Rattle.word.specs.Word.{pick}
+use Rattle.machine.specs.declared.Record.{Record}
+use Rattle.machine.specs.Calls.{zeros}
+use Rattle.image.specs.declared.Loaded.{Loaded}
+use Rattle.image.specs.Format.{bytesOf, wordAt, qrm1, qrm2, kinds, same, kindBy, trailerLength, trailerBytes, recordIn, lastBytes, kindOf, stateIn}
+use Rattle.image.specs.Load.{badLength, fileRefusal, loadRefusal}
+use Rattle.image.specs.Claims.{PositionBytes, RefusedBy, LoadOrder, OldPosition}
+use Rattle.image.proofs.Parts.{same-refl}
+use Rattle.image.proofs.RoundTrip.{takes-both}
+
+pub position-bytes : PositionBytes
+unfolding trailerBytes bytesOf
+position-bytes = refl
+
+-- ---- the order of load's refusals
+
+-- a file's refusal that does not go by what follows it is the load's
+file-refused : (n : ℕ) (s : List ℕ) → ((rest : ℕ) → fileRefusal s rest ≡ n) → RefusedBy n s
+file-refused n s h a b x a′ b′ p = ap (λ (l : Loaded). l .refusal) (p .answer) ∙ h _
+
+under : (s : List ℕ) (rest : ℕ) → length s < 92 → fileRefusal s rest ≡ 1
+unfolding fileRefusal
+under s rest h = rw (lt-leb 92 (length s) h)
+
+over : (s : List ℕ) (rest : ℕ) → 65536 < length s → fileRefusal s rest ≡ 1
+unfolding fileRefusal
+over s rest h = rw (le-leb 92 (length s) (omega arith), lt-leb (length s) 65536 h)
+
+neither : (s : List ℕ) (rest : ℕ) → 92 ≤ length s → length s ≤ 65536 → same (lastBytes 4 s) (qrm1 .last) ≡ false → same (lastBytes 4 s) (qrm2 .last) ≡ false
+    → fileRefusal s rest ≡ 2
+unfolding fileRefusal kindBy
+neither s rest h k e f =
+    let o : kindOf s ≡ qrm1 = rw (f, e) in
+    rw (o, le-leb 92 (length s) h, le-leb (length s) 65536 k, e)
+
+either : (b : Bool) (n : ℕ) → n ≡ 1 → pick b 1 n ≡ 1
+either true n e = refl
+either false n e = e
+
+cut : (s : List ℕ) (rest : ℕ) → lastBytes 4 s ≡ qrm2 .last → length s < 100 → fileRefusal s rest ≡ 1
+unfolding fileRefusal
+cut s rest e h =
+    let k : kindOf s ≡ qrm2 = ap (kindBy kinds) e ∙ takes-both .second .found in
+    either (badLength s) _ (rw (k, e, same-refl (qrm2 .last), lt-ltb (length s) (trailerLength qrm2) (omega arith)))
+
+pub load-order : LoadOrder
+load-order =
+    record {
+      under = λ s h. file-refused 1 s (λ rest. under s rest h);
+      over = λ s h. file-refused 1 s (λ rest. over s rest h);
+      neither = λ s h k e f. file-refused 2 s (λ rest. neither s rest h k e f);
+      cut = λ s e h. file-refused 1 s (λ rest. cut s rest e h);
+    }
+
+-- ---- the position of the first kind
+
+none-past : (n m : ℕ) (l : List ℕ) → n ≤ m → drop m (take n l) ≡ []
+none-past zero zero l h = refl
+none-past zero (suc m) l h = refl
+none-past (suc n) zero l h = absurd (omega arith)
+none-past (suc n) (suc m) [] h = refl
+none-past (suc n) (suc m) (x ∷ l) h = none-past n m l (omega arith)
+
+-- a word behind the first kind's 22 is 0
+word-lacking : (s : List ℕ) (i : ℕ) → 22 ≤ i → wordAt (take 88 s) i ≡ 0
+unfolding wordAt
+word-lacking s i h = rw (none-past 88 (4 * i) s (omega arith))
+
+position-lacking : (s : List ℕ) → lastBytes 4 s ≡ qrm1 .last → stateIn s .position ≡ pos 0
+unfolding recordIn
+position-lacking s e =
+    let k : kindOf s ≡ qrm1 = ap (kindBy kinds) e ∙ takes-both .first .found in
+    rw (k, word-lacking (lastBytes 92 s) 22 (omega arith), word-lacking (lastBytes 92 s) 23 (omega arith))
+
+-- accepted or refused
+either-zero : (t : Bool) (r : Record) → r .position ≡ pos 0 → pick t r zeros .position ≡ pos 0
+either-zero true r e = e
+either-zero false r e = refl
+
+pub old-position : OldPosition
+old-position s a b x a′ b′ p e =
+    ap (λ (l : Loaded). l .state .position) (p .answer) ∙ either-zero (eqb (loadRefusal s a b) 0) (stateIn s) (position-lacking s e)
