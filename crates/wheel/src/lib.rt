@@ -2,7 +2,7 @@
 ghost use mathlib.Core.Path.{_≡_};
 ghost use Prim.Native.Nat.{_+_, _^_, _<_, _≤_};
 ghost use Rattle.word.specs.Word.{pick};
-ghost use Rattle.wheel.specs.Wheel.{place, steps, fault, turnBy, memoryBy, wheelOf, counted, taken, WheelPromise};
+ghost use Rattle.wheel.specs.Wheel.{place, steps, fault, wheelOf, counted, taken, WheelPromise};
 use machine::Record;
 use machine::Turned;
 use word::choose;
@@ -49,23 +49,6 @@ fn fault_at(p: u32, s: u32) -> u32
 
 // ---- the samples of a call
 
-fn turn_by(k: u32, r: Record, mem: &mut [u32], table: &[u32]) -> Turned
-    ensures { λ a.
-        ⌜ (a ≡ turnBy k r (now (mem .entry)) (now (table .entry)))
-        × (now (mem .exit) ≡ memoryBy k r (now (mem .entry)) (now (table .entry))) ⌝ }
-{
-    if k == 1 {
-        return r.forward(mem, table);
-    }
-    if k == 3 {
-        return r.back(mem, table);
-    }
-    Turned {
-        refusal: 0,
-        state: r,
-    }
-}
-
 // The counts have room: together they are at most the samples taken.
 fn count(k: u32, s: u32, t: Turned, w: Wheeled) -> Wheeled
     requires { ⌜ w .forward + w .back + w .refused + 1 < 2 ^ 64 ⌝ }
@@ -83,6 +66,7 @@ fn count(k: u32, s: u32, t: Turned, w: Wheeled) -> Wheeled
     }
 }
 
+// Counted in each branch by itself: with one count behind all three, a turn's record is copied once more.
 fn take(s: u32, w: Wheeled, mem: &mut [u32], table: &[u32]) -> Wheeled
     requires { ⌜ w .forward + w .back + w .refused + 1 < 2 ^ 64 ⌝ }
     ensures { λ r. ⌜ wheelOf r (now (mem .exit)) ≡ taken (now (table .entry)) s (wheelOf w (now (mem .entry))) ⌝ }
@@ -95,7 +79,18 @@ fn take(s: u32, w: Wheeled, mem: &mut [u32], table: &[u32]) -> Wheeled
     }
     let k = steps_to(w.last, s);
     let r = w.state;
-    let t = turn_by(k, r, mem, table);
+    if k == 1 {
+        let t = r.forward(mem, table);
+        return count(k, s, t, w);
+    }
+    if k == 3 {
+        let t = r.back(mem, table);
+        return count(k, s, t, w);
+    }
+    let t = Turned {
+        refusal: 0,
+        state: r,
+    };
     count(k, s, t, w)
 }
 
