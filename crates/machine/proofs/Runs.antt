@@ -24,7 +24,7 @@ use Rattle.step.specs.Step.{noStore}
 use Rattle.machine.specs.Calls.{Machine, machineOf, Bounded, statusOf, recordAt, updated, TurnPromise, accepted, refusal, next, wrongSizes}
 use Rattle.machine.specs.Turn.{planAt}
 use Rattle.machine.specs.Position.{advanced}
-use Rattle.machine.specs.InPlace.{Steps, room, lastRefusal, First, Runs}
+use Rattle.machine.specs.InPlace.{Steps, room, lastRefusal, batchBy, First, Runs}
 use Rattle.machine.specs.Batch.{after, turnsMade, batchOf, BatchPromise}
 use Rattle.machine.specs.declared.Record.{Record}
 use Rattle.machine.specs.declared.Batch.{Batch}
@@ -151,6 +151,21 @@ module _ (live : Bool) (mem shown : List ℕ) {table : List ℕ} {d : Direction}
               state = state-is r g e 0 (r .position) (sym (advance-none d (r .position)));
               store = store-is r g e refl;
             }
+
+-- what a live run is to its callers, who read the position from its bits and build the record s
+module _ {d : Direction} {n : ℕ} {r : Record} {mem shown table : List ℕ} {a : Ran} {mem′ : List ℕ} (f : Runs true d n r mem shown table a mem′) where
+  abbrev promise : BatchPromise d n r mem table (batchBy d r a) mem′
+  promise = f .batch refl
+
+  as-read : asRead (r .position) ≡ r .position
+  as-read = toZ-ofZ (promise .bounds .position)
+
+  pub live-room : a .turns ≤ room d (asRead (r .position))
+  live-room = rw as-read (f .made refl)
+
+  pub live-batch : {s : Record} → s ≡ recordAt (a .at) (a .regs) (advanced d (a .turns) (asRead (r .position)))
+      → BatchPromise d n r mem table (record { turns = a .turns; refusal = a .refusal; state = s }) mem′
+  live-batch e = rw (e, as-read) promise
 
 -- a batch of one is a single turn
 single : (d : Direction) (r : Record) (mem table : List ℕ)

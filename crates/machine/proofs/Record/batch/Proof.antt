@@ -1,22 +1,13 @@
-use mathlib.Core.Path.{refl}
-use mir.Syntax.{w64}
-use mir.Val.{SFits}
-use mir.Facts.{toZ-ofZ}
+use Rattle.machine.proofs.Runs.{live-room, live-batch}
 use borrow.Author.Needs.{needs}
 use Rattle.machine.proofs.Record.batch.Statement.{statement}
 use Rattle.machine.proofs.Record.batch.Tie as tie
-
--- the position fits
-fits : (c : tie.After-struct-told) → SFits w64 (c .before .before .before .args .self .position)
-fits c = record { sfits = c .struct-told .given .1 .1 .1 .1 .1 .1 .0 .1 }
 
 pub batch-spec : {M : Type 1} → statement M
 batch-spec =
     tie.close
     (tie.spec
     (λ c. search needs) (λ c κs. search needs)
-    (λ c κs. let r = c .before .before .before .before in rw (toZ-ofZ (fits (r .before .before .before))) (r .run .ensures .made refl))
+    (λ c κs. live-room (c .before .before .before .before .run .ensures))
     (λ c. search needs)
-    (λ c.
-    let r = c .before .before .before .before .before in
-    rw (c .record-at .ensures, toZ-ofZ (fits (r .before .before .before))) (r .run .ensures .batch refl)))
+    (λ c. live-batch (c .before .before .before .before .before .run .ensures) (c .record-at .ensures)))
