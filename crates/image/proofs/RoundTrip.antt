@@ -15,7 +15,7 @@ use Rattle.step.specs.View.{Words}
 use Rattle.step.specs.Table.{tableWords}
 use Rattle.step.specs.Sizes.{isEnough, badSizes}
 use Rattle.machine.specs.declared.Record.{Record}
-use Rattle.machine.specs.Calls.{statusOf, updated}
+use Rattle.machine.specs.Calls.{statusOf, positioned}
 use Rattle.image.specs.declared.kinds.Kind.{Kind}
 use Rattle.image.specs.declared.Loaded.{Loaded}
 use Rattle.image.specs.Format.{bytesOf, wordAt, wordsOf, kinds, newest, oldest, same, kindBy, backAt, mAt, kAt, nAt, regsAt, qifvAt, qifwAt, positionAt, wordCount, trailerLength, backOf, further, tailWords, trailerWords, trailerBytes, recordIn, kept, imageBytes, lastBytes, kindOf, trailerIn, stateIn}
@@ -186,7 +186,7 @@ pub backs : Backs
 backs = record { first = λ r. omega arith; second = λ r. omega arith }
 
 pub keeps : Keeps
-keeps = record { newest = λ r f. ap (λ (p : ℤ). updated r p (statusOf r) (r .regs)) (joined (r .position) f); first = λ r. refl }
+keeps = record { newest = λ r f. ap (positioned r) (joined (r .position) f); first = λ r. refl }
 
 pub takes-both : TakesBoth
 unfolding kindBy same

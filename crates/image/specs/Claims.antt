@@ -11,7 +11,7 @@ use Rattle.step.specs.Table.{tableWords}
 use Rattle.step.specs.View.{nodes}
 use Rattle.step.specs.Sizes.{isEnough}
 use Rattle.machine.specs.declared.Record.{Record}
-use Rattle.machine.specs.Calls.{statusOf, updated, zeros, wrongSizes}
+use Rattle.machine.specs.Calls.{statusOf, positioned, zeros, wrongSizes}
 use Rattle.image.specs.declared.kinds.Kind.{Kind}
 use Rattle.image.specs.declared.Loaded.{Loaded}
 use Rattle.image.specs.Format.{qrm1, qrm2, kinds, newest, same, kindBy, backOf, trailerBytes, kept, imageBytes, lastBytes}
@@ -43,12 +43,12 @@ pub record TakesBoth : Type 0 where
 -- Claim: the newest kind has all of a record, and the first all but the position, which is then 0
 pub record Keeps : Type 0 where
   pub newest : (r : Record) → SFits w64 (r .position) → kept newest r ≡ r
-  pub first : (r : Record) → kept qrm1 r ≡ updated r (pos 0) (statusOf r) (r .regs)
+  pub first : (r : Record) → kept qrm1 r ≡ positioned r (pos 0)
 
 -- Claim: of zeros but for position -2, save's trailer ends in these 12 bytes: the position's 64 bits, low word first, and QRM2
 abbrev pub PositionBytes : Type 0
 PositionBytes =
-    lastBytes 12 (trailerBytes newest (updated zeros (negsuc 1) (statusOf zeros) (zeros .regs)))
+    lastBytes 12 (trailerBytes newest (positioned zeros (negsuc 1)))
     ≡ 0xFE ∷ 0xFF ∷ 0xFF ∷ 0xFF ∷ 0xFF ∷ 0xFF ∷ 0xFF ∷ 0xFF ∷ 0x51 ∷ 0x52 ∷ 0x4D ∷ 0x32 ∷ []
 
 -- ---- what load answers

@@ -11,7 +11,7 @@ use mir.Val.{ofZ, toZ}
 use Rattle.word.specs.Word.{pick}
 use Rattle.step.specs.Table.{tableWords}
 use Rattle.machine.specs.declared.Record.{Record}
-use Rattle.machine.specs.Calls.{statusOf, updated}
+use Rattle.machine.specs.Calls.{positioned}
 use Rattle.image.specs.declared.kinds.Kind.{Kind}
 
 -- ---- words as bytes
@@ -150,7 +150,7 @@ recordIn t =
 abbrev pub kept : Kind → Record → Record
 kept kind r =
     let l = moreWords kind r in
-    updated r (positionOf (getD l 0 0) (getD l 1 0)) (statusOf r) (r .regs)
+    positioned r (positionOf (getD l 0 0) (getD l 1 0))
 
 -- ---- the image
 

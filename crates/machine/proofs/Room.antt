@@ -1,6 +1,7 @@
 -- The position: one further and back, and many further. Assumes nothing.
 use Prim.Native.Nat.{ℕ, zero, suc, _+_, _-_, _^_, _<_, _≤_}
 use mathlib.Core.Path.{_≡_, refl, sym, ap, ap₂, _∙_, subst, subst⁻¹}
+use mathlib.Core.Logic.{_≢_}
 use mathlib.Core.Bool.{Bool, true, false}
 use native.Mathlib.Omega.{arith}
 use native.Mathlib.Numerals.{add-one}
@@ -16,7 +17,7 @@ use Rattle.word.proofs.Bits.{asRead}
 use Rattle.step.specs.declared.Direction.{Direction}
 use Rattle.step.specs.declared.Direction.the-variants.{Forward, Back}
 use Rattle.step.specs.View.{flip}
-use Rattle.machine.specs.Position.{isLast, advanced}
+use Rattle.machine.specs.Position.{end, isLast, advanced}
 use Rattle.machine.specs.InPlace.{room}
 
 -- ---- one further: the next whole number, or the one before
@@ -59,6 +60,19 @@ last-room Forward (pos n) f = (λ e. le-leb 9223372036854775807 n (omega arith),
 last-room Forward (negsuc n) f = (λ e. absurd (omega arith), λ h. refl)
 last-room Back (pos n) f = (λ e. absurd (omega arith), λ h. refl)
 last-room Back (negsuc n) f = (λ e. le-leb 9223372036854775807 n (omega arith), λ h. lt-leb 9223372036854775807 n (omega arith))
+
+room-none : (d : Direction) (p : ℤ) → SFits w64 p → room d p ≡ 0 → p ≡ end d
+room-none Forward (pos n) f e = let l = f .sfits in let n-is : n ≡ 9223372036854775807 = omega arith in ap pos n-is
+room-none Forward (negsuc n) f e = absurd (omega arith)
+room-none Back (pos n) f e = absurd (omega arith)
+room-none Back (negsuc n) f e = let l = f .sfits in let n-is : n ≡ 9223372036854775807 = omega arith in ap negsuc n-is
+
+pub no-other : (d : Direction) (p : ℤ) → SFits w64 p → p ≢ end d → isLast d p ≡ false
+no-other d p f h = go (room d p) refl
+  where
+    go : (k : ℕ) → room d p ≡ k → isLast d p ≡ false
+    go zero e = absurd (h (room-none d p f e))
+    go (suc k) e = last-room d p f .1 (omega arith)
 
 -- ---- many further
 

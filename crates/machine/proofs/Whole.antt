@@ -2,12 +2,12 @@
 use mathlib.Core.Path.{_≡_, refl, sym, ap, _∙_}
 use mathlib.Core.Logic.{_≢_}
 use mathlib.Core.Bool.{Bool, true, false}
-use mathlib.Core.List.{List}
+use mathlib.Core.List.{List, _++_}
 use Prim.Native.Nat.{ℕ, _+_}
 use native.Mathlib.Omega.{arith}
 use lib.Dec.{eqb}
 use lib.IntN.{ℤ}
-use lib.ListN.{take}
+use lib.ListN.{take, drop}
 use borrow.Author.Tests.{eqb-true, eqb-false}
 use Rattle.word.specs.Word.{pick}
 use Rattle.step.specs.declared.Status.{Status}
@@ -21,15 +21,15 @@ use Rattle.step.specs.Sizes.{badSizes}
 use Rattle.step.specs.Step.{noStore, number, refuse}
 use Rattle.machine.specs.Turn.{from, judged, turned, planAt}
 use Rattle.machine.specs.Position.{end, isLast, advanced, positionAfter}
-use Rattle.machine.specs.Calls.{machineOf, statusOf, updated, viewOf, planOf, viewAfter, turnOf, memoryOf, accepted, refusal}
+use Rattle.machine.specs.Calls.{machineOf, statusOf, updated, positioned, viewOf, planOf, viewAfter, turnOf, memoryOf, accepted, refusal}
 use Rattle.machine.specs.Preview.{plannedStore, storeBy}
 use Rattle.machine.specs.InPlace.{Steps, lastRefusal, First}
-use Rattle.machine.specs.Claims.{LastRefused}
+use Rattle.machine.specs.Claims.{LastRefused, Unseen}
 use Rattle.machine.specs.declared.Record.{Record}
 use Rattle.machine.specs.declared.Turned.{Turned}
 use Rattle.machine.proofs.Claims.{next-position}
 use Rattle.machine.proofs.Sure.{uncounted}
-use Rattle.machine.proofs.Room.{advance-one}
+use Rattle.machine.proofs.Room.{advance-one, no-other}
 
 module _ {live : Bool} {d : Direction} (R : Record) {mem read table : List ℕ} {w : ℕ} {at′ : Status} {s : Store} {regs′ mem′ : List ℕ}
     (f : Steps live d (statusOf R) (R .regs) mem read table w at′ s regs′ mem′) (e : isLast d (R .position) ≡ false) where
@@ -112,3 +112,32 @@ end-last Back = refl
 pub last-refused : LastRefused
 last-refused d r mem table a mem′ p e =
     ap (λ (t : Turned). t .refusal) (p .answer) ∙ last-refusal d r mem table (ap (isLast d) e ∙ end-last d)
+
+-- ---- before it no turn looks at the position
+
+module _ (d : Direction) (r : Record) (p : ℤ) (mem table : List ℕ) (e : isLast d (r .position) ≡ isLast d p) where
+  abbrev r′ : Record
+  r′ = positioned r p
+
+  same-plan : planOf d r mem table ≡ planOf d r′ mem table
+  same-plan = ap (λ (b : Bool). planAt d b (statusOf r) (r .regs) mem table) e
+
+  same-number : turnOf d r mem table .refusal ≡ turnOf d r′ mem table .refusal
+  same-number = ap number same-plan
+
+  same-state : positioned (turnOf d r mem table .state) (turnOf d r′ mem table .state .position) ≡ turnOf d r′ mem table .state
+  same-state =
+      let q = turnOf d r′ mem table .state .position in
+      ap (λ (a : Attempt). updated r q (turned d a (viewOf r mem) .at) (turned d a (viewOf r mem) .regs)) same-plan
+
+  same-memory : memoryOf d r mem table ≡ memoryOf d r′ mem table
+  same-memory = ap (λ (a : Attempt). turned d a (viewOf r mem) .memory ++ drop (r .m) mem) same-plan
+
+pub unseen : Unseen
+unseen d r p mem table a b mem₁ mem₂ f g h k =
+    let e = no-other d (r .position) (f .bounds .position) h ∙ sym (no-other d p (g .bounds .position) k) in
+    record {
+      refusal = rw (f .answer, g .answer) (same-number d r p mem table e);
+      state = rw (f .answer, g .answer) (same-state d r p mem table e);
+      memory = rw (f .memory, g .memory) (same-memory d r p mem table e);
+    }

@@ -36,6 +36,10 @@ recordAt at regs p = record { regs = regs; qifv = at .qifv; qifw = at .qifw; k =
 abbrev pub updated : Record → ℤ → Status → List ℕ → Record
 updated r p at regs = record { regs = regs; qifv = at .qifv; qifw = at .qifw; k = r .k; m = r .m; n = r .n; position = p }
 
+-- r at another position
+abbrev pub positioned : Record → ℤ → Record
+positioned r p = updated r p (statusOf r) (r .regs)
+
 abbrev pub zeros : Record
 zeros =
     record {

@@ -4,12 +4,13 @@ use Prim.Native.Nat.{ℕ}
 use mathlib.Core.Path.{_≡_}
 use mathlib.Core.Logic.{_≢_}
 use mathlib.Core.List.{List}
+use lib.IntN.{ℤ}
 use lib.ListN.{drop}
 use Rattle.word.specs.Word.{pick}
 use Rattle.step.specs.declared.Direction.{Direction}
 use Rattle.step.specs.declared.Direction.the-variants.{Forward, Back}
 use Rattle.step.specs.View.{flip}
-use Rattle.machine.specs.Calls.{Machine, machineOf, Bounded, TurnPromise, wrongSizes, refusal, next, Leads}
+use Rattle.machine.specs.Calls.{Machine, machineOf, positioned, Bounded, TurnPromise, wrongSizes, refusal, next, Leads}
 use Rattle.machine.specs.Position.{end}
 use Rattle.machine.specs.declared.Record.{Record}
 use Rattle.machine.specs.declared.Turned.{Turned}
@@ -49,9 +50,23 @@ pub record OnCalls : Type 0 where
       → TurnPromise d r mem table a mem′ → (e : Origin table (flip d) (machineOf r mem))
       → (a .refusal ≡ 0) × (machineOf (a .state) mem′ ≡ e .machine)
 
--- Document 02, #104, of calls: at the last position a turn this way is refused by 21, but for 10, whatever stands at pc. Proved in
--- proofs/Whole.
+-- ---- the position (document 02, #104), of calls. Proved in proofs/Whole.
+
+-- At the last one a turn this way is refused by 21, but for 10, whatever stands at pc.
 abbrev pub LastRefused : Type 0
 LastRefused =
     (d : Direction) (r : Record) (mem table : List ℕ) (a : Turned) (mem′ : List ℕ) → TurnPromise d r mem table a mem′ → r .position ≡ end d
     → a .refusal ≡ pick (wrongSizes r mem table) 10 21
+
+-- two answers of turns, and the memories that they left: the same but for the position
+pub record SameTurn (a b : Turned) (mem₁ mem₂ : List ℕ) : Type 0 where
+  pub refusal : a .refusal ≡ b .refusal
+  pub state : positioned (a .state) (b .state .position) ≡ b .state
+  pub memory : mem₁ ≡ mem₂
+
+-- From any two other positions a turn is the same: it looks at nothing else of them.
+abbrev pub Unseen : Type 0
+Unseen =
+    (d : Direction) (r : Record) (p : ℤ) (mem table : List ℕ) (a b : Turned) (mem₁ mem₂ : List ℕ)
+    → TurnPromise d r mem table a mem₁ → TurnPromise d (positioned r p) mem table b mem₂ → r .position ≢ end d → p ≢ end d
+    → SameTurn a b mem₁ mem₂
