@@ -1,6 +1,5 @@
 // Links of the qif table, node by node.
 ghost use mathlib.Core.Path.{_≡_};
-ghost use mathlib.Core.Bool.{_||_};
 ghost use Prim.Native.Nat.{_<_};
 ghost use lib.ListN.{take};
 ghost use Rattle.step.specs.Table.{tableWords};

@@ -23,7 +23,7 @@ use Rattle.machine.specs.declared.Turned.{Turned}
 use Rattle.machine.specs.declared.Batch.{Batch}
 use Rattle.machine.proofs.Claims.{next-view, next-excess, refused-keeps, turn-home}
 use Rattle.machine.proofs.Batches.{batches-complete}
-use Rattle.lists.specs.Lists.{Call, Left, Slipped, SlippedIn, Straight, Alike, AlikeTables, Right, LeftAndRight}
+use Rattle.lists.specs.Lists.{Call, Left, SlippedIn, Straight, Alike, AlikeTables, Right, LeftAndRight}
 use Rattle.lists.specs.Lists.Call.{single, batch, samples, reads}
 use Rattle.lists.specs.Lists.Left.{empty, then}
 use Rattle.lists.specs.Lists.Slipped.{ends, both, slip}

@@ -1,7 +1,5 @@
 -- What a move and an effect keep. Assumes nothing.
 use mathlib.Core.Path.{_≡_, refl, _∙_}
-use mathlib.Core.List.{List}
-use Prim.Native.Nat.{ℕ}
 use lib.ListN.{length, length-set}
 use Rattle.step.specs.View.{View}
 use Rattle.step.specs.Step.{written, performed}

@@ -9,7 +9,6 @@ use lib.Dec.{eqb}
 use lib.ListN.{length, length-take, getD, set, take, drop, take-append-drop}
 use lib.Seq.{getD-set-same, set-getD}
 use borrow.Author.Tests.{eqb-true, eqb-false, not-true, not-false}
-use Rattle.word.specs.Word.{pick}
 use Rattle.word.proofs.Words.{and-true}
 use Rattle.step.specs.declared.Direction.{Direction}
 use Rattle.step.specs.declared.Effect.{Effect}

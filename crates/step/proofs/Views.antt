@@ -2,7 +2,7 @@
 use mathlib.Core.Path.{_≡_, refl, sym, ap, _∙_}
 use mathlib.Core.List.{List, [], _++_, append-nil}
 use mathlib.Core.Bool.{Bool, true, false, _&&_}
-use Prim.Native.Nat.{ℕ, _+_, _-_, _*_, _<_, _≤_, min}
+use Prim.Native.Nat.{ℕ, _+_, _-_, _<_, _≤_, min}
 use native.Mathlib.Omega.{arith}
 use native.Mathlib.Decide.{decLe}
 use lib.ListN.{length, length-set, length-append, length-drop, getD, set, take, drop, length-take, take-append-drop, drop-of-length-le, List·getD-eq-default}
@@ -10,7 +10,7 @@ use lib.Seq.{take-at, drop-at, take-all, length-take-le, getD-take, getD-set-sam
 use lib.Dec.{eqb, ltb, leb}
 use borrow.Author.Tests.{lt-ltb, le-ltb, le-leb, lt-leb, leb-true, leb-false, eqb-true, eqb-false, ltb-false, ltb-true}
 use Rattle.word.specs.Word.{pick}
-use Rattle.step.specs.Table.{tableWords, link, isNode}
+use Rattle.step.specs.Table.{tableWords, link}
 
 pub read-out : (l : List ℕ) (a : ℕ) → length l ≤ a → 0 ≡ getD l a 0
 read-out l a h = sym (List·getD-eq-default l 0 h)

@@ -1,6 +1,5 @@
 // An instruction word attempted: its effect, or the number that refuses it. Nothing is written.
 ghost use mathlib.Core.Path.{_≡_};
-ghost use mathlib.Core.Bool.{not, _&&_};
 ghost use Prim.Native.Nat.{_+_, _-_};
 ghost use lib.Dec.{eqb, ltb};
 ghost use lib.Bits.{bitXor};

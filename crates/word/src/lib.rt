@@ -1,9 +1,8 @@
 // Arithmetic on words of 32 bits, and choices by a test.
 ghost use mathlib.Core.Path.{_≡_};
 ghost use mathlib.Core.Bool.{true, false, _&&_, _||_};
-ghost use Prim.Native.Nat.{_+_, _-_, _*_, _/_, _%_, _<_};
+ghost use Prim.Native.Nat.{_+_, _-_, _*_, _/_, _%_};
 ghost use lib.Bits.{bitXor};
-ghost use lib.Dec.{eqb, ltb};
 ghost use Rattle.word.specs.Word.{pick, addWord, subWord, mulWord, divWord, complement, withBit};
 
 pub mod signed;

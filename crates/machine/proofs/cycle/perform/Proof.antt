@@ -1,6 +1,5 @@
 use mathlib.Core.Path.{ap, _∙_}
-use denote.Ref.{now}
-use lib.ListN.{length, length-set, take}
+use lib.ListN.{length, length-set}
 use Rattle.step.proofs.Sized.{written-long, lent-long}
 use borrow.Author.Needs.{needs}
 use Rattle.machine.proofs.cycle.perform.Statement.{statement}

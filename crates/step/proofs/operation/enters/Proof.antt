@@ -1,4 +1,3 @@
-use mathlib.Core.Path.{_≡_, refl, sym, ap, _∙_}
 use borrow.Author.Needs.{needs}
 use Rattle.step.proofs.operation.enters.Statement.{statement}
 use Rattle.step.proofs.operation.enters.Tie as tie

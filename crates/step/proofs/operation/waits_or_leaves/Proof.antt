@@ -1,4 +1,4 @@
-use borrow.Author.Tests.{eq-eqb, ne-eqb, lt-ltb, le-ltb}
+use borrow.Author.Tests.{lt-ltb, le-ltb}
 use borrow.Author.Needs.{needs}
 use Rattle.step.proofs.operation.waits_or_leaves.Statement.{statement}
 use Rattle.step.proofs.operation.waits_or_leaves.Tie as tie

@@ -1,4 +1,3 @@
-use mathlib.Core.Path.{_≡_, refl, sym, ap, _∙_}
 use borrow.Author.Needs.{needs}
 use Rattle.step.proofs.table.is_paired.Statement.{statement}
 use Rattle.step.proofs.table.is_paired.Tie as tie
