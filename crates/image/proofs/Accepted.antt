@@ -8,7 +8,7 @@ use lib.Dec.{eqb, ltb, leb}
 use lib.ListN.{length, take}
 use borrow.Author.Tests.{leb-true, ltb-true, ltb-false, not-false}
 use Rattle.word.specs.Word.{pick}
-use Rattle.word.proofs.Words.{and-true}
+use Rattle.word.proofs.Words.{and-true, pick-second}
 use Rattle.step.specs.Table.{tableWords}
 use Rattle.step.specs.Sizes.{maxWords, maxNodes, inRange, isEnough, badSizes}
 use Rattle.step.proofs.Views.{view-long}
@@ -17,11 +17,6 @@ use Rattle.machine.specs.Calls.{statusOf, wrongSizes}
 use Rattle.image.specs.Format.{wordAt, newest, backAt, backOf, trailerIn, stateIn, backIn}
 use Rattle.image.specs.Load.{badLength, hasLast, isCut, fileRefusal, loadRefusal, startIn}
 use Rattle.image.specs.Save.{SaveDecided}
-
--- a test that refuses by a number other than 0 did not hold
-pick-zero : (t : Bool) (n : ℕ) {rest : ℕ} → 0 < n → pick t n rest ≡ 0 → (t ≡ false) × (rest ≡ 0)
-pick-zero true n h e = absurd (omega (arith, e))
-pick-zero false n h e = (refl, e)
 
 -- what the file's refusal of 0 tells
 pub record Passed (s : List ℕ) (rest : ℕ) : Type 0 where
@@ -32,12 +27,12 @@ pub record Passed (s : List ℕ) (rest : ℕ) : Type 0 where
 pub file-accepted : (s : List ℕ) (rest : ℕ) → fileRefusal s rest ≡ 0 → Passed s rest
 unfolding fileRefusal
 file-accepted s rest h =
-    let p = pick-zero (badLength s) 1 (omega arith) h in
-    let q = pick-zero (not (hasLast s)) 2 (omega arith) (p .1) in
-    let w = pick-zero (isCut s) 1 (omega arith) (q .1) in
-    let r = pick-zero (not (inRange (statusOf (stateIn s)))) 3 (omega arith) (w .1) in
-    let t = pick-zero (not (eqb (wordAt (trailerIn s) backAt) (backIn s))) 4 (omega arith) (r .1) in
-    let u = pick-zero (ltb (length s) (backIn s)) 5 (omega arith) (t .1) in
+    let p = pick-second (badLength s) (λ e. omega (arith, e)) h in
+    let q = pick-second (not (hasLast s)) (λ e. omega (arith, e)) (p .1) in
+    let w = pick-second (isCut s) (λ e. omega (arith, e)) (q .1) in
+    let r = pick-second (not (inRange (statusOf (stateIn s)))) (λ e. omega (arith, e)) (w .1) in
+    let t = pick-second (not (eqb (wordAt (trailerIn s) backAt) (backIn s))) (λ e. omega (arith, e)) (r .1) in
+    let u = pick-second (ltb (length s) (backIn s)) (λ e. omega (arith, e)) (t .1) in
     record { range = not-false _ (r .0); within = ltb-false (length s) (backIn s) (u .0); last = u .1 }
 
 -- what load goes on with, r being the record as it read it
@@ -50,7 +45,7 @@ pub load-accepted : (s mem table : List ℕ) {n : ℕ} {r : Record} → n ≡ lo
 load-accepted s mem table f z e =
     let h = sym f ∙ z in
     let p = file-accepted s (pick (not (isEnough (statusOf (stateIn s)) (length mem) (length table))) 6 0) h in
-    let t = pick-zero (not (isEnough (statusOf (stateIn s)) (length mem) (length table))) 6 (omega arith) (p .last) in
+    let t = pick-second (not (isEnough (statusOf (stateIn s)) (length mem) (length table))) (λ e. omega (arith, e)) (p .last) in
     let q = and-true (leb (stateIn s .m) (length mem)) (leb (tableWords (stateIn s .n)) (length table)) (not-false _ (t .0)) in
     record {
       within = rw e (let h = p .within in omega arith);
@@ -94,6 +89,6 @@ pub record Saving (r : Record) (mem table out : List ℕ) : Type 0 where
 
 pub save-accepted : {r : Record} {mem table out : List ℕ} {n : ℕ} → SaveDecided r mem table out n → n ≡ 0 → Saving r mem table out
 save-accepted {r} {mem} {table} {out} d z =
-    let p = pick-zero (wrongSizes r mem table) 10 (omega arith) (sym (d .answer) ∙ z) in
-    let q = pick-zero (ltb (length out) (backOf newest r)) 9 (omega arith) (p .1) in
+    let p = pick-second (wrongSizes r mem table) (λ e. omega (arith, e)) (sym (d .answer) ∙ z) in
+    let q = pick-second (ltb (length out) (backOf newest r)) (λ e. omega (arith, e)) (p .1) in
     record { right = p .0; sizes = sized r mem table (p .0); room = ltb-false _ _ (q .0) }
