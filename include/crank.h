@@ -201,11 +201,17 @@ size_t crank_preface_length(const uint8_t *file, size_t file_len);
 uint32_t crank_save(Record r, const uint32_t *mem, size_t mem_len,
                     const uint32_t *table, size_t table_len, uint8_t *out, size_t out_len);
 
-/* Looks at the code words and at the links of the table; writes nothing. Refusals: 10 as in a
- * turn, 7 at the lowest code address without an instruction, 8 at the lowest node with an unpaired
- * link. */
+/* Looks at the code words and then, node by node, at the links of the table; writes nothing.
+ * Refusals: 10 as in a turn, 7 at the lowest code address without an instruction, 8 at the lowest
+ * node with an unpaired link. */
 Checked crank_check(Record r, const uint32_t *mem, size_t mem_len,
                     const uint32_t *table, size_t table_len);
+
+/* Looks at the links of one node, whatever the code words are; writes nothing. Answers the refusal:
+ * 10 as in a turn, where mem is too short too, 17 where node is not 1 to n, 8 where a link of it that
+ * is not 0 is unpaired. Of these nodes the lowest with 8 is the place of crank_check's 8. */
+uint32_t crank_check_node(Record r, uint32_t node, const uint32_t *mem, size_t mem_len,
+                          const uint32_t *table, size_t table_len);
 
 /* ---- The lesson bench: libsession.a ----
  *

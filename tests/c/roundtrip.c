@@ -25,6 +25,8 @@ Preview crank_preview_forward(Record r, const uint32_t *mem, size_t mem_len,
                               const uint32_t *table, size_t table_len);
 Preview crank_preview_back(Record r, const uint32_t *mem, size_t mem_len,
                            const uint32_t *table, size_t table_len);
+uint32_t crank_check_node(Record r, uint32_t node, const uint32_t *mem, size_t mem_len,
+                          const uint32_t *table, size_t table_len);
 
 enum {
     MAX_WORDS = 8192,
@@ -61,7 +63,8 @@ typedef struct {
 static const char *image = "", *calls = "";
 
 /* What was covered. */
-static unsigned long turned[2], waited, sampled, refused[22], prefaced, empty, positions;
+static unsigned long turned[2], waited, sampled, refused[22], prefaced, empty, positions,
+    nodes;
 static struct {
     unsigned long made;
     unsigned long words; /* that would change */
@@ -528,6 +531,31 @@ static void expect_check(const Machine *given, uint32_t number, uint32_t place)
     refused[number] += number > 0;
 }
 
+static void expect_node(const Machine *given, uint32_t node, uint32_t number)
+{
+    static Machine m;
+    m = *given;
+    calls = "check of a node";
+    uint32_t refusal = crank_check_node(m.bench.state, node, m.mem, m.mem_len, m.table,
+                                        m.table_len);
+    demand(refusal == number, "another refusal than expected");
+    demand(same(&m, given), "changed something");
+    nodes++;
+    refused[number] += number > 0;
+}
+
+/* All nodes paired, and none below them and above. */
+static void expect_paired(const Machine *given)
+{
+    const uint32_t n = given->bench.state.n;
+    for (uint32_t node = 1; node <= n; node++) {
+        expect_node(given, node, 0);
+    }
+    expect_node(given, 0, 17);
+    expect_node(given, n + 1, 17);
+    expect_node(given, UINT32_MAX, 17);
+}
+
 static void expect_save_refused(const Machine *given, size_t out_len, uint32_t number)
 {
     static Machine m;
@@ -564,6 +592,7 @@ static void expect_load_refused(const File *file, uint32_t mem_len, uint32_t tab
 static void checks(const Machine *start)
 {
     expect_check(start, 0, 0);
+    expect_paired(start);
     for (size_t i = 0; i < start->bench.state.k; i++) {
         demand(qins_is_instruction(start->mem[i]) == 1, "a code word is no instruction");
     }
@@ -706,6 +735,8 @@ static void refused_sizes(const Machine *start)
         expect_no_step(&m);
         expect_save_refused(&m, MAX_IMAGE, 10);
         expect_check(&m, 10, 0);
+        expect_node(&m, 0, 10);
+        expect_node(&m, 1, 10);
     }
 }
 
@@ -718,9 +749,12 @@ static void refused_contents(const Machine *start)
     m = *start;
     m.mem[r->k - 1] = 0;
     expect_check(&m, 7, r->k - 1);
+    expect_paired(&m);
     if (r->n > 0) {
-        m = *start;
         m.table[0] = r->n + 1;
+        expect_node(&m, 1, 8);
+        m.mem[r->k - 1] = start->mem[r->k - 1];
+        expect_node(&m, 1, 8);
         expect_check(&m, 8, 1);
     }
 }
@@ -816,7 +850,7 @@ static void report_previews(const char *name, int way)
 /* Fails where something was never met; else says what was. */
 static void report(int images)
 {
-    static const int MET[] = {1, 2, 3, 4, 5, 6, 7, 8, 9, 10, 12, 19, 20, 21};
+    static const int MET[] = {1, 2, 3, 4, 5, 6, 7, 8, 9, 10, 12, 17, 19, 20, 21};
     unsigned long total = 0;
     image = "all images";
     calls = "coverage";
@@ -826,15 +860,16 @@ static void report(int images)
     demand(prefaced > 0, "no preface was tried");
     demand(empty > 0, "no batch of 0 was tried");
     demand(positions > 0, "no end of the position was tried");
+    demand(nodes > 0, "no node was checked by itself");
     for (size_t i = 0; i < sizeof MET / sizeof *MET; i++) {
         demand(refused[MET[i]] > 0, "a refusal was never met");
         total += refused[MET[i]];
     }
     printf("roundtrip: images %d; turns forward %lu, back %lu; single turns out of a wait %lu; "
            "batches of 0 %lu; samples %lu; loads behind a preface %lu; ends of the position %lu; "
-           "calls refused %lu\n",
+           "checks of a node %lu; calls refused %lu\n",
            images, turned[FORWARD], turned[BACK], waited, empty, sampled, prefaced, positions,
-           total);
+           nodes, total);
     report_previews("forward", FORWARD);
     report_previews("back", BACK);
 }

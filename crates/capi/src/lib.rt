@@ -10,7 +10,7 @@ ghost use Rattle.word.specs.Word.{pick};
 ghost use Rattle.qins.specs.Decode.{isInstruction};
 ghost use Rattle.image.specs.Load.{LoadPromise, prefaceOf};
 ghost use Rattle.image.specs.Save.{SavePromise};
-ghost use Rattle.image.specs.Check.{checkOf};
+ghost use Rattle.image.specs.Check.{checkOf, checkNodeOf};
 use image::Checked;
 use image::Loaded;
 use machine::Batch;
@@ -109,4 +109,11 @@ pub extern "C" fn crank_check(r: Record, mem: &[u32], table: &[u32]) -> Checked
     ensures { λ a. ⌜ a ≡ checkOf r (now (mem .entry)) (now (table .entry)) ⌝ }
 {
     image::check(r, mem, table)
+}
+
+#[no_mangle]
+pub extern "C" fn crank_check_node(r: Record, node: u32, mem: &[u32], table: &[u32]) -> u32
+    ensures { λ a. ⌜ a ≡ checkNodeOf r node (now (mem .entry)) (now (table .entry)) ⌝ }
+{
+    image::check_node(r, node, mem, table)
 }

@@ -4,7 +4,9 @@ pub mod Parts
 pub mod KindSearch
 pub mod Written
 pub mod Search
+pub mod OneNode
 pub mod Accepted
+pub mod NodeByNode
 pub mod Answers
 pub mod RoundTrip
 pub mod BothKinds

@@ -48,8 +48,12 @@ noInstruction l a = not (isInstruction (getD l a 0))
 abbrev pub badAddress : Record → List ℕ → ℕ
 badAddress r mem = firstOf (noInstruction (take (r .m) mem)) 0 (r .k)
 
+-- of the nodes that count
+abbrev pub badLinks : Record → List ℕ → ℕ → Bool
+badLinks r table = unpaired (nodes (statusOf r) table) (r .n)
+
 abbrev pub badNode : Record → List ℕ → ℕ
-badNode r table = firstOf (unpaired (nodes (statusOf r) table) (r .n)) 1 (r .n)
+badNode r table = firstOf (badLinks r table) 1 (r .n)
 
 abbrev pub checkedAs : ℕ → ℕ → Checked
 checkedAs n p = record { refusal = n; place = p }
@@ -60,3 +64,11 @@ checkOf r mem table =
     (pick (ltb (badAddress r mem) (r .k)) (checkedAs 7 (badAddress r mem))
     (pick (leb (badNode r table) (r .n)) (checkedAs 8 (badNode r table))
     (checkedAs 0 0)))
+
+-- one node (document 02, #105); of the memory only the length counts
+abbrev pub checkNodeOf : Record → ℕ → List ℕ → List ℕ → ℕ
+checkNodeOf r v mem table =
+    pick (wrongSizes r mem table) 10
+    (pick (not (isNode (r .n) v)) 17
+    (pick (badLinks r table v) 8
+    0))

@@ -7,7 +7,7 @@ ghost use Rattle.step.specs.Table.{tableWords};
 ghost use Rattle.image.specs.Format.{newest, backOf, image};
 ghost use Rattle.image.specs.Load.{loadRefusal, filled, LoadPromise, prefaceOf};
 ghost use Rattle.image.specs.Save.{SaveDecided, SavePromise};
-ghost use Rattle.image.specs.Check.{firstOf, noInstruction, checkOf};
+ghost use Rattle.image.specs.Check.{firstOf, noInstruction, checkOf, checkNodeOf};
 
 mod kinds;
 mod links;
@@ -17,6 +17,7 @@ mod words;
 use kinds::NEWEST;
 use machine::Record;
 use step::sizes::is_enough;
+use step::table::is_node;
 use step::table::table_words;
 use trailer::back_of;
 use trailer::file_refusal;
@@ -168,4 +169,13 @@ pub fn check(r: Record, mem: &[u32], table: &[u32]) -> Checked
         refusal: 0,
         place: 0,
     }
+}
+
+// The refusal of one node, 0 for none; the code words are not looked at.
+pub fn check_node(r: Record, node: u32, mem: &[u32], table: &[u32]) -> u32
+    ensures { λ a. ⌜ a ≡ checkNodeOf r node (now (mem .entry)) (now (table .entry)) ⌝ }
+{
+    let bad = links::is_unpaired(table, r.n, node);
+    let found = word::choose(!is_node(r.n, node), 17, word::choose(bad, 8, 0));
+    word::choose(r.has_bad_sizes(mem, table), 10, found)
 }

@@ -33,7 +33,7 @@ fn are_children_returned(table: &[u32], n: u32, v: u32, x: u32) -> bool
 }
 
 // Node v has a link that is not 0 and not paired.
-fn is_unpaired(table: &[u32], n: u32, v: u32) -> bool
+pub(crate) fn is_unpaired(table: &[u32], n: u32, v: u32) -> bool
     ensures { λ r. ⌜ r ≡ unpaired (take (tableWords n) (now (table .entry))) n v ⌝ }
 {
     let cf = is_returned(table, n, v, CF, first_child(0), first_child(1));

@@ -237,6 +237,14 @@ extern "C" {
         table: *const u32,
         table_len: usize,
     ) -> Checked;
+    fn crank_check_node(
+        r: Record,
+        node: u32,
+        mem: *const u32,
+        mem_len: usize,
+        table: *const u32,
+        table_len: usize,
+    ) -> u32;
 }
 
 /// Whether the word is an instruction.
@@ -366,6 +374,21 @@ pub fn save(r: Record, mem: &[u32], table: &[u32], out: &mut [u8]) -> u32 {
 pub fn check(r: Record, mem: &[u32], table: &[u32]) -> Checked {
     // SAFETY: pointers and lengths come from live slices.
     unsafe { crank_check(r, mem.as_ptr(), mem.len(), table.as_ptr(), table.len()) }
+}
+
+/// Looks at the links of one node, whatever the code words are. Gives the refusal: 10, 17 or 8.
+pub fn check_node(r: Record, node: u32, mem: &[u32], table: &[u32]) -> u32 {
+    // SAFETY: pointers and lengths come from live slices.
+    unsafe {
+        crank_check_node(
+            r,
+            node,
+            mem.as_ptr(),
+            mem.len(),
+            table.as_ptr(),
+            table.len(),
+        )
+    }
 }
 
 impl Bench {

@@ -191,4 +191,9 @@ impl Machine {
     pub fn check(&self) -> Checked {
         calls::check(self.record, &self.mem, &self.table)
     }
+
+    /// Looks at the links of one node, whatever the code words are; gives the refusal.
+    pub fn check_node(&self, node: u32) -> u32 {
+        calls::check_node(self.record, node, &self.mem, &self.table)
+    }
 }

@@ -1,0 +1,99 @@
+-- What the check says, whole and node by node (document 01, "Image"; document 02, #105).
+use Prim.Native.Nat.{ℕ, _<_, _≤_}
+use mathlib.Core.Path.{_≡_}
+use mathlib.Core.Bool.{true, false}
+use mathlib.Core.Logic.{_↔_}
+use mathlib.Core.List.{List, [], _∷_, _++_, map}
+use lib.IntN.{pos}
+use lib.ListN.{length, getD, set, replicate}
+use Rattle.qins.specs.Decode.{isInstruction}
+use Rattle.step.specs.Table.{nodeWords}
+use Rattle.machine.specs.declared.Record.{Record}
+use Rattle.machine.specs.Calls.{zeros, wrongSizes}
+use Rattle.image.specs.Check.{checkedAs, checkOf, checkNodeOf}
+
+-- ---- before the nodes
+
+-- a is the lowest code address that holds no instruction
+pub record FirstBadWord (r : Record) (mem : List ℕ) (a : ℕ) : Type 0 where
+  pub code : a < r .k
+  pub bad : isInstruction (getD mem a 0) ≡ false
+  pub lower : (b : ℕ) → b < a → isInstruction (getD mem b 0) ≡ true
+
+-- the sizes are in order, and every code word is an instruction
+pub record InOrder (r : Record) (mem table : List ℕ) : Type 0 where
+  pub sizes : wrongSizes r mem table ≡ false
+  pub code : (a : ℕ) → a < r .k → isInstruction (getD mem a 0) ≡ true
+
+-- Claim: the whole check gives 10 exactly for wrong sizes, 7 and a exactly where they are right and a is the lowest bad code
+-- word; any other answer is given exactly where all is in order up to the nodes
+pub record BeforeNodes : Type 0 where
+  pub sizes : (r : Record) (mem table : List ℕ) → (checkOf r mem table ≡ checkedAs 10 0) ↔ (wrongSizes r mem table ≡ true)
+  pub words : (r : Record) (mem table : List ℕ) (a : ℕ)
+      → (checkOf r mem table ≡ checkedAs 7 a) ↔ (wrongSizes r mem table ≡ false) × FirstBadWord r mem a
+  pub passed : (r : Record) (mem table : List ℕ)
+      → (checkOf r mem table .refusal ≡ 10 → ⊥) × (checkOf r mem table .refusal ≡ 7 → ⊥) ↔ InOrder r mem table
+
+-- ---- node by node
+
+-- the call on p gives 8, and on every lower node 0
+pub record FirstBadNode (r : Record) (mem table : List ℕ) (p : ℕ) : Type 0 where
+  pub bad : checkNodeOf r p mem table ≡ 8
+  pub lower : (v : ℕ) → 0 < v → v < p → checkNodeOf r v mem table ≡ 0
+
+-- Claim: with all in order up to the nodes, the whole check gives 8 and p exactly where the call on p gives 8 and on every lower
+-- node 0, and it gives 0 exactly where the call on every node does
+pub record NodeByNode : Type 0 where
+  pub bad : (r : Record) (mem table : List ℕ) (p : ℕ) → InOrder r mem table
+      → (checkOf r mem table ≡ checkedAs 8 p) ↔ FirstBadNode r mem table p
+  pub good : (r : Record) (mem table : List ℕ) → InOrder r mem table
+      → (checkOf r mem table ≡ checkedAs 0 0) ↔ ((v : ℕ) → 0 < v → v ≤ r .n → checkNodeOf r v mem table ≡ 0)
+
+-- ---- one node
+
+-- Claim: the call gives 10 exactly for wrong sizes, and 17 exactly where they are right and the node is not 1 to N
+pub record BeforeLinks : Type 0 where
+  pub sizes : (r : Record) (v : ℕ) (mem table : List ℕ) → (checkNodeOf r v mem table ≡ 10) ↔ (wrongSizes r mem table ≡ true)
+  pub outside : (r : Record) (v : ℕ) (mem table : List ℕ)
+      → (checkNodeOf r v mem table ≡ 17) ↔ (wrongSizes r mem table ≡ false) × ((0 < v) × (v ≤ r .n) → ⊥)
+
+-- Claim: it is the same whatever the words of the memory are
+abbrev pub AnyWords : Type 0
+AnyWords =
+    (r : Record) (v : ℕ) (mem mem′ table : List ℕ) → length mem ≡ length mem′ → checkNodeOf r v mem table ≡ checkNodeOf r v mem′ table
+
+-- ---- the pairing rules, worked out: the answer on node 1 of two nodes, with a code word that is no instruction
+
+abbrev pub onFirst : List ℕ → ℕ
+onFirst table =
+    checkNodeOf (record { regs = zeros .regs; qifv = 0; qifw = 0; k = 1; m = 1; n = 2; position = pos 0 }) 1 (0 ∷ []) table
+
+-- a node's words, by their index, and a node of which word j is v and every other 0
+abbrev pub indices : List ℕ
+indices = 0 ∷ 1 ∷ 2 ∷ 3 ∷ 4 ∷ 5 ∷ 6 ∷ 7 ∷ 8 ∷ []
+
+abbrev pub only : ℕ → ℕ → List ℕ
+only j v = set (replicate nodeWords 0) j v
+
+-- Claim: word j of node 1 is 2, and word g of node 2 is 1. A row is a j and a column a g, in the order fc0 fc1 lc0 lc1 cf cl nx
+-- pr w: each link returns by its inverses and by nothing else, and w is no link.
+abbrev pub Pairing : Type 0
+Pairing =
+    map (λ (j : ℕ). map (λ (g : ℕ). onFirst (only j 2 ++ only g 1)) indices) indices
+    ≡ (8 ∷ 8 ∷ 8 ∷ 8 ∷ 0 ∷ 8 ∷ 8 ∷ 8 ∷ 8 ∷ [])
+    ∷ (8 ∷ 8 ∷ 8 ∷ 8 ∷ 0 ∷ 8 ∷ 8 ∷ 8 ∷ 8 ∷ [])
+    ∷ (8 ∷ 8 ∷ 8 ∷ 8 ∷ 8 ∷ 0 ∷ 8 ∷ 8 ∷ 8 ∷ [])
+    ∷ (8 ∷ 8 ∷ 8 ∷ 8 ∷ 8 ∷ 0 ∷ 8 ∷ 8 ∷ 8 ∷ [])
+    ∷ (0 ∷ 0 ∷ 8 ∷ 8 ∷ 8 ∷ 8 ∷ 8 ∷ 8 ∷ 8 ∷ [])
+    ∷ (8 ∷ 8 ∷ 0 ∷ 0 ∷ 8 ∷ 8 ∷ 8 ∷ 8 ∷ 8 ∷ [])
+    ∷ (8 ∷ 8 ∷ 8 ∷ 8 ∷ 8 ∷ 8 ∷ 8 ∷ 0 ∷ 8 ∷ [])
+    ∷ (8 ∷ 8 ∷ 8 ∷ 8 ∷ 8 ∷ 8 ∷ 0 ∷ 8 ∷ 8 ∷ [])
+    ∷ (0 ∷ 0 ∷ 0 ∷ 0 ∷ 0 ∷ 0 ∷ 0 ∷ 0 ∷ 0 ∷ [])
+    ∷ []
+
+-- Claim: nor does it return where word j is 2 and all words of node 2 lead elsewhere, nor where it is 3, which is above N, though
+-- behind the table follow words that would all lead back
+pub record Astray : Type 0 where
+  pub elsewhere : map (λ (j : ℕ). onFirst (only j 2 ++ replicate nodeWords 2)) indices ≡ 8 ∷ 8 ∷ 8 ∷ 8 ∷ 8 ∷ 8 ∷ 8 ∷ 8 ∷ 0 ∷ []
+  pub above : map (λ (j : ℕ). onFirst (only j 3 ++ replicate nodeWords 0 ++ replicate nodeWords 1)) indices
+      ≡ 8 ∷ 8 ∷ 8 ∷ 8 ∷ 8 ∷ 8 ∷ 8 ∷ 8 ∷ 0 ∷ []
