@@ -197,3 +197,18 @@ pub fn check(r: Record, mem: &[u32], table: &[u32]) -> (u32, u32) {
     }
     (0, 0)
 }
+
+/// Checks the links of one node alone, whatever the code words are (document
+/// 02, #105): the refusal.
+pub fn check_node(r: Record, node: u32, mem: &[u32], table: &[u32]) -> u32 {
+    if !sizes_fit(&r, mem, table) {
+        return 10;
+    }
+    if !(1..=r.n).contains(&node) {
+        return 17;
+    }
+    if !node_paired(table, r.n, node) {
+        return 8;
+    }
+    0
+}

@@ -1,8 +1,9 @@
 //! Sizes at and past their limits, with lent slices exact, short and long:
-//! turns, previews, check and save.
+//! turns, previews, save, and the check, whole and of one node.
 
 mod proved;
 
+use crank_model::cover::Cover;
 use crank_model::image::{self, SAVED};
 use crank_model::instruction::{word_i, word_r};
 use crank_model::machine::{Record, CF, FC, NODE};
@@ -75,6 +76,11 @@ fn visit_words(sizes: [u32; 3], lent: [usize; 2], visit: &mut impl FnMut(Machine
     }
 }
 
+/// The nodes at the limits of those that there are.
+fn asked(n: u32) -> [u32; 4] {
+    [0, 1, n, n.wrapping_add(1)]
+}
+
 /// Refusals seen over all machines, forward and back.
 fn seen(turns: [Turn; 2]) -> [[u32; 22]; 2] {
     let mut seen = [[0; 22]; 2];
@@ -107,6 +113,15 @@ fn model() {
         let in_range = r.m >= 1 && r.m <= 8192 && r.k >= 1 && r.k <= r.m && r.n <= 511;
         let lent = machine.mem.len() >= r.m as usize && machine.table.len() >= 9 * r.n as usize;
         assert_eq!(refusal == 10, !(in_range && lent), "{r:?}");
+        for node in asked(r.n) {
+            let expected = match node {
+                _ if !(in_range && lent) => 10,
+                _ if node == 0 || node > r.n => 17,
+                _ => 0,
+            };
+            let found = image::check_node(r, node, &machine.mem, &machine.table);
+            assert_eq!(found, expected, "{node} of {r:?}");
+        }
         good += u32::from(refusal != 10);
         bad += u32::from(refusal == 10);
     });
@@ -117,7 +132,6 @@ fn model() {
 #[test]
 fn turns() {
     use crank_model::compare::same_turn;
-    use crank_model::cover::Cover;
     let turns: [Turn; 2] = [proved::forward, proved::back];
     let mut cover = Cover::default();
     each(|start| {
@@ -149,10 +163,17 @@ fn previews() {
 
 #[test]
 fn check_and_save() {
+    let mut cover = Cover::default();
     each(|m| {
         let expected = image::check(m.record, &m.mem, &m.table);
         let found = proved::check(m.record, &m.mem, &m.table);
         assert_eq!(found, expected, "{:?}", m.record);
+        for node in asked(m.record.n) {
+            let expected = image::check_node(m.record, node, &m.mem, &m.table);
+            let found = proved::check_node(m.record, node, &m.mem, &m.table);
+            assert_eq!(found, expected, "{node} of {:?}", m.record);
+            cover.count(&format!("answer {expected}"));
+        }
         let fits = SAVED.back_length(m.record.m, m.record.n).min(52_000) as usize;
         for len in [fits, fits - 1] {
             let (mut out, mut model_out) = (vec![7; len], vec![7; len]);
@@ -162,4 +183,6 @@ fn check_and_save() {
             assert!(out == model_out, "{:?}", m.record);
         }
     });
+    cover.summary("limits, check of one node");
+    cover.demand(&["answer 0", "answer 10", "answer 17"]);
 }

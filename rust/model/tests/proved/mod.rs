@@ -118,6 +118,10 @@ pub fn check(r: Record, mem: &[u32], table: &[u32]) -> (u32, u32) {
     (checked.refusal, checked.place)
 }
 
+pub fn check_node(r: Record, node: u32, mem: &[u32], table: &[u32]) -> u32 {
+    calls::check_node(given(r), node, mem, table)
+}
+
 /// The lesson bench.
 pub struct Bench(calls::Bench);
 
