@@ -141,6 +141,7 @@ fn sizes_that_do_not_fit() {
         spoil(&mut machine);
         let before = machine.clone();
         assert_eq!((machine.save(), machine.check().refusal), (Err(10), 10));
+        assert_eq!([0, 1, 2].map(|node| machine.check_node(node)), [10; 3]);
         assert_eq!(machine.save_as(Kind::One), Err(10));
         for direction in [Forward, Back] {
             assert_eq!(machine.refusal(direction), 10);
@@ -228,29 +229,47 @@ fn previews() {
     assert!(previews > 200 && changes > 0);
 }
 
+/// The check of each node by itself, and of 0 and the number behind the last.
+fn by_node(machine: &Machine) -> Vec<u32> {
+    let nodes = 0..=machine.record.n + 1;
+    nodes.map(|node| machine.check_node(node)).collect()
+}
+
+/// The same where every link is paired.
+fn no_bad_nodes(n: u32) -> Vec<u32> {
+    [&[17][..], &vec![0; n as usize], &[17]].concat()
+}
+
 #[test]
 fn checked() {
-    let (mut words, mut links) = (0, 0);
+    let (mut words, mut links, mut nodes) = (0, 0, 0);
     for (name, _, machine) in examples() {
         let found = |machine: &Machine| (machine.check().refusal, machine.check().place);
         assert_eq!(found(&machine), (0, 0), "{name}");
+        let n = machine.record.n;
+        assert_eq!(by_node(&machine), no_bad_nodes(n), "{name}");
+        nodes += n;
         for address in 0..machine.record.k {
             let mut spoilt = machine.clone();
             spoilt.mem[address as usize] = u32::MAX;
             assert_eq!(found(&spoilt), (7, address), "{name}");
+            assert_eq!(by_node(&spoilt), no_bad_nodes(n), "{name}");
             words += 1;
         }
-        if machine.record.n > 0 {
+        if n > 0 {
             let mut spoilt = machine.clone();
             // The next of the last node, which has none.
             let at = spoilt.table.len() - 3;
-            spoilt.table[at] = machine.record.n;
-            assert_eq!(found(&spoilt), (8, machine.record.n), "{name}");
+            spoilt.table[at] = n;
+            assert_eq!(found(&spoilt), (8, n), "{name}");
+            let mut answers = no_bad_nodes(n);
+            answers[n as usize] = 8;
+            assert_eq!(by_node(&spoilt), answers, "{name}");
             links += 1;
         }
     }
-    println!("machine: {words} code words and {links} links that are no good");
-    assert!(words > 50 && links > 1);
+    println!("machine: {words} code words and {links} links that are no good, {nodes} nodes");
+    assert!(words > 50 && links > 1 && nodes > 10);
 }
 
 /// Any number of turns, none and more than there are, from either end.
