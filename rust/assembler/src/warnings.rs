@@ -1,6 +1,5 @@
 //! What is taken, but can hardly be meant: an `ld` of no data word, a link that nothing pairs.
 
-use crate::forms::Form;
 use crate::instruction::Instruction;
 use crate::source::{Source, Word};
 use crate::Warning;
@@ -43,26 +42,12 @@ fn addresses(source: &Source<'_>, machine: &Machine) -> Vec<Warning> {
         .collect()
 }
 
-/// The lowest node with an unpaired link, as the proved check tells it.
+/// The lowest node with an unpaired link, as the proved check of one node tells it: the whole check
+/// looks at the code first.
 fn unpaired(source: &Source<'_>, machine: &Machine) -> Option<Warning> {
-    // The check looks at the code first, so the table is checked with code that is in order.
-    let start = Form::named("start")?;
-    let values = Vec::new();
-    let code = Instruction {
-        form: start,
-        values,
-    }
-    .word()
-    .ok()?;
-    let checked = Machine::new(1, vec![code], machine.table.clone()).check();
-    if checked.refusal != 8 {
-        return None;
-    }
-    let node = source.nodes.get((checked.place as usize).checked_sub(1)?)?;
-    let name = match node.name {
-        Some(name) => name.to_string(),
-        None => checked.place.to_string(),
-    };
+    let mut nodes = (1..).zip(&source.nodes);
+    let (number, node) = nodes.find(|(number, _)| machine.check_node(*number) == 8)?;
+    let name = node.name.map_or(number.to_string(), str::to_string);
     let message = format!("a link of node {name} is not paired: no link leads back");
     let line = node.line;
     Some(Warning { line, message })

@@ -35,7 +35,8 @@ type Done = Result<(), Stop>;
 
 /// Behind the table that `help` prints.
 const NUMBERS: &str = "\
-N, addresses and samples are decimal or hexadecimal with 0x; an address may be a label.
+N, addresses, nodes and samples are decimal or hexadecimal with 0x; in a source an address may be a
+label, and a node its name.
 SAMPLES are numbers with blanks between them, or @FILE: the bytes of that file.";
 
 /// A row of the table that `help` prints.
@@ -75,8 +76,8 @@ const COMMANDS: &[Command] = &[
         does: "the qif table: links that are not 0, and waits" },
     Command { names: &["p", "picture"], takes: "FILE.svg", run: draw,
         does: "draws the qif table" },
-    Command { names: &["check"], takes: "", run: check,
-        does: "looks at all code words and links" },
+    Command { names: &["check"], takes: "[NODE]", run: check,
+        does: "looks at all code words and links, or at the links of NODE alone" },
     Command { names: &["c", "counts"], takes: "", run: counts,
         does: "the turns made since the file was opened or reset; the position" },
     Command { names: &["s", "save"], takes: "FILE", run: save,
@@ -247,7 +248,10 @@ fn draw(desk: &mut Desk, arguments: &[&str], out: &mut dyn Write) -> Done {
     Ok(writeln!(out, "drawn in {name}: {nodes}")?)
 }
 
-fn check(desk: &mut Desk, _: &[&str], out: &mut dyn Write) -> Done {
+fn check(desk: &mut Desk, arguments: &[&str], out: &mut dyn Write) -> Done {
+    if let [node, ..] = arguments {
+        return check_node(desk, typed::node(node, &desk.exercise)?, out);
+    }
     let checked = desk.machine.check();
     let (refusal, why) = (checked.refusal, meaning(checked.refusal, Call::Check));
     let place = match refusal {
@@ -256,6 +260,16 @@ fn check(desk: &mut Desk, _: &[&str], out: &mut dyn Write) -> Done {
         _ => String::new(),
     };
     Ok(writeln!(out, "check gives {refusal}{place}: {why}")?)
+}
+
+fn check_node(desk: &Desk, node: u32, out: &mut dyn Write) -> Done {
+    let refusal = desk.machine.check_node(node);
+    let why = meaning(refusal, Call::Check);
+    let node = show::node(node, &desk.exercise);
+    Ok(writeln!(
+        out,
+        "check of node {node} gives {refusal}: {why}"
+    )?)
 }
 
 fn counts(desk: &mut Desk, _: &[&str], out: &mut dyn Write) -> Done {

@@ -70,6 +70,13 @@ impl Exercise {
         Some(found.1)
     }
 
+    /// The node to which the source gives a name.
+    pub fn node_of(&self, name: &str) -> Option<u32> {
+        let mut names = (1..).zip(&self.nodes);
+        let (node, _) = names.find(|(_, found)| found.as_deref() == Some(name))?;
+        Some(node)
+    }
+
     /// The name of a node, if the source gives it one.
     pub fn node_name(&self, node: u32) -> Option<&str> {
         let place = (node as usize).checked_sub(1)?;

@@ -68,14 +68,37 @@ pub fn address(text: &str, exercise: &Exercise) -> Result<u32, String> {
     if let Some(address) = exercise.address_of(label) {
         return beyond(address, more);
     }
-    if text.starts_with(|c: char| c.is_ascii_digit()) {
-        return Ok(number(text, u64::from(u32::MAX))? as u32);
+    word(text).unwrap_or_else(|| {
+        let hint = match exercise.labels.is_empty() {
+            true => "; only a source has labels",
+            false => "",
+        };
+        Err(format!("there is no label {}{hint}", quoted(text)))
+    })
+}
+
+/// A node: a number, any word, since the call itself says which it takes, or a name of the source.
+///
+/// # Errors
+///
+/// A line that says what is wrong with it.
+pub fn node(text: &str, exercise: &Exercise) -> Result<u32, String> {
+    if let Some(node) = exercise.node_of(text) {
+        return Ok(node);
     }
-    let hint = match exercise.labels.is_empty() {
-        true => "; only a source has labels",
-        false => "",
-    };
-    Err(format!("there is no label {}{hint}", quoted(text)))
+    word(text).unwrap_or_else(|| {
+        let hint = match exercise.nodes.is_empty() {
+            true => "; only a source names nodes",
+            false => "",
+        };
+        Err(format!("there is no node {}{hint}", quoted(text)))
+    })
+}
+
+/// A number of 32 bits; none where what was typed begins like a name.
+fn word(text: &str) -> Option<Result<u32, String>> {
+    let is_number = text.starts_with(|c: char| c.is_ascii_digit());
+    is_number.then(|| Ok(number(text, u64::from(u32::MAX))? as u32))
 }
 
 /// An address so many words behind another, or before it: `+2`, `-1`, or nothing.

@@ -34,6 +34,7 @@ pub fn meaning(refusal: u32, call: Call) -> &'static str {
         (14, _) => "a wait is left, but not at a qif or above the w of the node",
         (15, _) => "the address is no data word, K to M-1",
         (16, _) => "the coin is not 0 or 1",
+        (17, Call::Check) => "the node is not 1 to N",
         (17, _) => "a node is not 1 to N, or a link of the table does not return",
         (18, Call::Back) => "the word to be undone is finish",
         (18, _) => "the next word would be start",

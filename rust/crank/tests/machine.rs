@@ -503,6 +503,8 @@ fn meanings() {
         let [forward, back] = [Call::Forward, Call::Back].map(|call| meaning(refusal, call));
         assert_ne!(forward, back, "{refusal}");
     }
+    let nodes = [Call::Forward, Call::Check].map(|call| meaning(17, call));
+    assert_ne!(nodes[0], nodes[1]);
     println!("machine: 0 to 21 in words, for {} calls", calls.len());
 }
 
