@@ -4,7 +4,9 @@ pub mod Parts
 pub mod KindSearch
 pub mod Written
 pub mod Search
+pub mod Decides
 pub mod OneNode
+pub mod Paired
 pub mod Accepted
 pub mod NodeByNode
 pub mod Answers

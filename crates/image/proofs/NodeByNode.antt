@@ -7,9 +7,9 @@ use native.Mathlib.Omega.{arith}
 use lib.ListN.{getD, take}
 use lib.Seq.{getD-take}
 use lib.Dec.{ltb, leb}
-use borrow.Author.Tests.{ltb-true, ltb-false, leb-true, leb-false, lt-ltb, le-ltb, le-leb, lt-leb, not-true, not-false}
+use borrow.Author.Tests.{ltb-true, ltb-false, leb-true, leb-false, le-ltb, le-leb, lt-leb, not-true, not-false}
 use Rattle.word.specs.Word.{pick}
-use Rattle.word.proofs.Words.{and-true, pick-first, pick-second, pick-neither}
+use Rattle.word.proofs.Words.{pick-first, pick-second, pick-neither}
 use Rattle.qins.specs.Decode.{isInstruction}
 use Rattle.step.specs.Table.{isNode}
 use Rattle.machine.specs.declared.Record.{Record}
@@ -19,6 +19,8 @@ use Rattle.image.specs.Check.{noInstruction, badAddress, badLinks, badNo
 use Rattle.image.specs.CheckClaims.{FirstBadWord, InOrder, BeforeNodes, FirstBadNode, NodeByNode}
 use Rattle.image.proofs.Search.{Found, found, found-is}
 use Rattle.image.proofs.Accepted.{sized}
+use Rattle.image.proofs.Decides.{node}
+use Rattle.image.proofs.OneNode.{links-decide}
 use Rattle.image.proofs.Answers.{check-sizes, check-code}
 
 -- ---- answers of the check
@@ -123,9 +125,6 @@ module _ (r : Record) (mem table : List ℕ) where
 
   -- ---- node by node
 
-  node-decides : wrongSizes r mem table ≡ false → (v : ℕ) → 0 < v → v ≤ r .n → checkNodeOf r v mem table ≡ pick (badLinks r table v) 8 0
-  node-decides w v h k = rw (w, lt-ltb 0 v h, le-leb v (r .n) k)
-
   bad-told : (p : ℕ) → InOrder r mem table → checkOf r mem table ≡ checkedAs 8 p → FirstBadNode r mem table p
   bad-told p o e =
       let (t, c) = pick-first (leb (badNode r table) (r .n)) (λ e. omega (arith, number e)) (sym (nodes-decide o) ∙ e) in
@@ -134,8 +133,8 @@ module _ (r : Record) (mem table : List ℕ) where
       let f : Found (badLinks r table) 1 (r .n) p = rw (← q) found-node in
       let l = f .least in
       record {
-        bad = node-decides (o .sizes) p (omega arith) h ∙ rw (f .holds (omega arith));
-        lower = λ v k m. node-decides (o .sizes) v k (omega arith) ∙ rw (f .below v (omega arith) m);
+        bad = links-decide r p mem table (o .sizes) (omega arith) h ∙ rw (f .holds (omega arith));
+        lower = λ v k m. links-decide r v mem table (o .sizes) k (omega arith) ∙ rw (f .below v (omega arith) m);
       }
 
   -- what a call on a node tells
@@ -152,23 +151,22 @@ module _ (r : Record) (mem table : List ℕ) where
       record {
         least = omega arith;
         most = omega arith;
-        below = λ v h k. pick-second (badLinks r table v) (λ e. omega (arith, e)) (sym (node-decides w v (omega arith) (omega arith)) ∙ below v (omega arith) k) .0;
-        holds = λ h. pick-first (badLinks r table p) (λ e. omega (arith, e)) (sym (node-decides w p l (omega arith)) ∙ at (omega arith)) .0;
+        below = λ v h k. pick-second (badLinks r table v) (λ e. omega (arith, e)) (sym (links-decide r v mem table w (omega arith) (omega arith)) ∙ below v (omega arith) k) .0;
+        holds = λ h. pick-first (badLinks r table p) (λ e. omega (arith, e)) (sym (links-decide r p mem table w l (omega arith)) ∙ at (omega arith)) .0;
       } in
       found-is _ 1 (r .n) p f
 
   bad-first : (p : ℕ) → InOrder r mem table → FirstBadNode r mem table p → checkOf r mem table ≡ checkedAs 8 p
   bad-first p o b =
-      let (x, y) = and-true (ltb 0 p) (leb p (r .n)) (node-told p 8 (λ e. omega (arith, e)) (λ e. omega (arith, e)) (b .bad)) in
-      let k = leb-true p (r .n) y in
-      let e = found-at (o .sizes) p (ltb-true 0 p x) (omega arith) (b .lower) (λ h. b .bad) in
+      let (h, k) = node (r .n) p .0 (node-told p 8 (λ e. omega (arith, e)) (λ e. omega (arith, e)) (b .bad)) in
+      let e = found-at (o .sizes) p h (omega arith) (b .lower) (λ h. b .bad) in
       nodes-decide o ∙ rw (e, le-leb p (r .n) k)
 
   good-told : InOrder r mem table → checkOf r mem table ≡ checkedAs 0 0 → (v : ℕ) → 0 < v → v ≤ r .n → checkNodeOf r v mem table ≡ 0
   good-told o e v h k =
       let t = pick-second (leb (badNode r table) (r .n)) (λ e. omega (arith, number e)) (sym (nodes-decide o) ∙ e) in
       let l = leb-false (badNode r table) (r .n) (t .0) in
-      node-decides (o .sizes) v h k ∙ rw (found-node .below v (omega arith) (omega arith))
+      links-decide r v mem table (o .sizes) h k ∙ rw (found-node .below v (omega arith) (omega arith))
 
   good-all : InOrder r mem table → ((v : ℕ) → 0 < v → v ≤ r .n → checkNodeOf r v mem table ≡ 0) → checkOf r mem table ≡ checkedAs 0 0
   good-all o a =

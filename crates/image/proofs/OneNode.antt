@@ -5,15 +5,16 @@ use mathlib.Core.List.{List}
 use Prim.Native.Nat.{ℕ, _<_, _≤_, min}
 use native.Mathlib.Omega.{arith}
 use lib.ListN.{length, take, length-take}
-use lib.Dec.{ltb, leb}
-use borrow.Author.Tests.{ltb-true, leb-true, lt-ltb, le-leb, not-true}
-use Rattle.word.proofs.Words.{and-true, pick-first, pick-second, pick-neither}
+use borrow.Author.Tests.{not-true}
+use Rattle.word.specs.Word.{pick}
+use Rattle.word.proofs.Words.{pick-first, pick-second, pick-neither}
 use Rattle.step.specs.Table.{isNode, link}
 use Rattle.step.specs.Sizes.{inRange, badSizes}
 use Rattle.machine.specs.declared.Record.{Record}
 use Rattle.machine.specs.Calls.{wrongSizes}
 use Rattle.image.specs.Check.{returns, childrenReturn, unpaired, badLinks, checkNodeOf}
 use Rattle.image.specs.CheckClaims.{BeforeLinks, AnyWords, Pairing, Astray}
+use Rattle.image.proofs.Decides.{node}
 
 module _ (r : Record) (v : ℕ) (mem table : List ℕ) where
   ten-told : checkNodeOf r v mem table ≡ 10 → wrongSizes r mem table ≡ true
@@ -26,14 +27,18 @@ module _ (r : Record) (v : ℕ) (mem table : List ℕ) where
   outside-told e =
       let (w, d) = pick-second (wrongSizes r mem table) (λ e. omega (arith, e)) e in
       let (o, _) = pick-first (not (isNode (r .n) v)) (pick-neither (badLinks r table v) (λ e. omega (arith, e)) (λ e. omega (arith, e))) d in
-      (w, λ p. let n : isNode (r .n) v ≡ true = rw (lt-ltb 0 v (p .0), le-leb v (r .n) (p .1)) in true≢false (sym n ∙ not-true _ o))
+      (w, λ p. true≢false (sym (node (r .n) v .1 p) ∙ not-true _ o))
 
   outside-refused : wrongSizes r mem table ≡ false → ((0 < v) × (v ≤ r .n) → ⊥) → checkNodeOf r v mem table ≡ 17
   outside-refused w h = go (isNode (r .n) v) refl
     where
       go : (b : Bool) → isNode (r .n) v ≡ b → checkNodeOf r v mem table ≡ 17
-      go true e = let (x, y) = and-true (ltb 0 v) (leb v (r .n)) e in absurd (h (ltb-true 0 v x, leb-true v (r .n) y))
+      go true e = absurd (h (node (r .n) v .0 e))
       go false e = rw (w, e)
+
+  -- of a node of the table its links decide
+  pub links-decide : wrongSizes r mem table ≡ false → 0 < v → v ≤ r .n → checkNodeOf r v mem table ≡ pick (badLinks r table v) 8 0
+  links-decide w h k = rw (w, node (r .n) v .1 (h, k))
 
 pub before-links : BeforeLinks
 before-links =

@@ -1,13 +1,13 @@
 -- What the check says, whole and node by node (document 01, "Image"; document 02, #105).
-use Prim.Native.Nat.{ℕ, _<_, _≤_}
+use Prim.Native.Nat.{ℕ, _+_, _-_, _*_, _<_, _≤_}
 use mathlib.Core.Path.{_≡_}
 use mathlib.Core.Bool.{true, false}
-use mathlib.Core.Logic.{_↔_}
+use mathlib.Core.Logic.{_↔_, _⊎_}
 use mathlib.Core.List.{List, [], _∷_, _++_, map}
 use lib.IntN.{pos}
 use lib.ListN.{length, getD, set, replicate}
 use Rattle.qins.specs.Decode.{isInstruction}
-use Rattle.step.specs.Table.{nodeWords}
+use Rattle.step.specs.Table.{nodeWords, fc, lc, cf, cl, nx, pr}
 use Rattle.machine.specs.declared.Record.{Record}
 use Rattle.machine.specs.Calls.{zeros, wrongSizes}
 use Rattle.image.specs.Check.{checkedAs, checkOf, checkNodeOf}
@@ -61,6 +61,39 @@ pub record BeforeLinks : Type 0 where
 abbrev pub AnyWords : Type 0
 AnyWords =
     (r : Record) (v : ℕ) (mem mem′ table : List ℕ) → length mem ≡ length mem′ → checkNodeOf r v mem table ≡ checkNodeOf r v mem′ table
+
+-- ---- the links of a node, as they stand in the lent table
+
+-- word j of node v
+abbrev pub wordOf : List ℕ → ℕ → ℕ → ℕ
+wordOf table v j = getD table (nodeWords * (v - 1) + j) 0
+
+-- u is 1 to n, and word g or word h of node u is v
+abbrev pub LeadsBack : List ℕ → ℕ → ℕ → ℕ → ℕ → ℕ → Type 0
+LeadsBack table n v u g h = ((0 < u) × (u ≤ n)) × ((wordOf table u g ≡ v) ⊎ (wordOf table u h ≡ v))
+
+-- link j of node v is 0, or paired by g or h
+abbrev pub Paired : List ℕ → ℕ → ℕ → ℕ → ℕ → ℕ → Type 0
+Paired table n v j g h = (wordOf table v j ≡ 0) ⊎ LeadsBack table n v (wordOf table v j) g h
+
+abbrev pub ChildrenPaired : List ℕ → ℕ → ℕ → ℕ → Type 0
+ChildrenPaired table n v x = Paired table n v (fc x) cf cf × Paired table n v (lc x) cl cl
+
+abbrev pub AllPaired : List ℕ → ℕ → ℕ → Type 0
+AllPaired table n v =
+    ChildrenPaired table n v 0
+    × (ChildrenPaired table n v 1
+    × (Paired table n v nx pr pr
+    × (Paired table n v pr nx nx
+    × (Paired table n v cf (fc 0) (fc 1)
+    × Paired table n v cl (lc 0) (lc 1)))))
+
+-- Claim: with sizes in order, the call on a node 1 to N gives 0 exactly where all its links are 0 or paired, and else 8
+pub record OnLinks : Type 0 where
+  pub good : (r : Record) (v : ℕ) (mem table : List ℕ) → wrongSizes r mem table ≡ false → 0 < v → v ≤ r .n
+      → (checkNodeOf r v mem table ≡ 0) ↔ AllPaired table (r .n) v
+  pub bad : (r : Record) (v : ℕ) (mem table : List ℕ) → wrongSizes r mem table ≡ false → 0 < v → v ≤ r .n
+      → (checkNodeOf r v mem table ≡ 8) ↔ (AllPaired table (r .n) v → ⊥)
 
 -- ---- the pairing rules, worked out: the answer on node 1 of two nodes, with a code word that is no instruction
 
