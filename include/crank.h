@@ -208,8 +208,8 @@ Checked crank_check(Record r, const uint32_t *mem, size_t mem_len,
                     const uint32_t *table, size_t table_len);
 
 /* Looks at the links of one node, whatever the code words are; writes nothing. Answers the refusal:
- * 10 as in a turn, where mem is too short too, 17 where node is not 1 to n, 8 where a link of it that
- * is not 0 is unpaired. Of these nodes the lowest with 8 is the place of crank_check's 8. */
+ * 10 as in a turn, for a short mem too, 17 where node is not 1 to n, 8 where a link of it that is not
+ * 0 is unpaired. Where crank_check answers 8, its place is the lowest node for which this call does. */
 uint32_t crank_check_node(Record r, uint32_t node, const uint32_t *mem, size_t mem_len,
                           const uint32_t *table, size_t table_len);
 

@@ -540,7 +540,7 @@ static void expect_node(const Machine *given, uint32_t node, uint32_t number)
                                         m.table_len);
     demand(refusal == number, "another refusal than expected");
     demand(same(&m, given), "changed something");
-    nodes++;
+    nodes += number == 0 || number == 8;
     refused[number] += number > 0;
 }
 

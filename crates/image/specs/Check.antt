@@ -48,7 +48,7 @@ noInstruction l a = not (isInstruction (getD l a 0))
 abbrev pub badAddress : Record → List ℕ → ℕ
 badAddress r mem = firstOf (noInstruction (take (r .m) mem)) 0 (r .k)
 
--- of the nodes that count
+-- a node has an unpaired link, in the first 9 N lent words
 abbrev pub badLinks : Record → List ℕ → ℕ → Bool
 badLinks r table = unpaired (nodes (statusOf r) table) (r .n)
 

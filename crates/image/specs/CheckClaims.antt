@@ -108,8 +108,8 @@ indices = 0 ∷ 1 ∷ 2 ∷ 3 ∷ 4 ∷ 5 ∷ 6 ∷ 7 ∷ 8 ∷ []
 abbrev pub only : ℕ → ℕ → List ℕ
 only j v = set (replicate nodeWords 0) j v
 
--- Claim: word j of node 1 is 2, and word g of node 2 is 1. A row is a j and a column a g, in the order fc0 fc1 lc0 lc1 cf cl nx
--- pr w: each link returns by its inverses and by nothing else, and w is no link.
+-- Claim: where word j of node 1 is 2 and word g of node 2 is 1, these are the answers, a row a j and a column a g, in the order
+-- fc0 fc1 lc0 lc1 cf cl nx pr w: each link returns by its inverses and by nothing else, and w is no link
 abbrev pub Pairing : Type 0
 Pairing =
     map (λ (j : ℕ). map (λ (g : ℕ). onFirst (only j 2 ++ only g 1)) indices) indices
@@ -124,8 +124,8 @@ Pairing =
     ∷ (0 ∷ 0 ∷ 0 ∷ 0 ∷ 0 ∷ 0 ∷ 0 ∷ 0 ∷ 0 ∷ [])
     ∷ []
 
--- Claim: nor does it return where word j is 2 and all words of node 2 lead elsewhere, nor where it is 3, which is above N, though
--- behind the table follow words that would all lead back
+-- Claim: nor does a link return that leads to node 2, whose words all lead elsewhere, or to node 3, which is above N, though words
+-- follow behind the table that would all lead back
 pub record Astray : Type 0 where
   pub elsewhere : map (λ (j : ℕ). onFirst (only j 2 ++ replicate nodeWords 2)) indices ≡ 8 ∷ 8 ∷ 8 ∷ 8 ∷ 8 ∷ 8 ∷ 8 ∷ 8 ∷ 0 ∷ []
   pub above : map (λ (j : ℕ). onFirst (only j 3 ++ replicate nodeWords 0 ++ replicate nodeWords 1)) indices

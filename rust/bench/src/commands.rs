@@ -35,8 +35,8 @@ type Done = Result<(), Stop>;
 
 /// Behind the table that `help` prints.
 const NUMBERS: &str = "\
-N, addresses, nodes and samples are decimal or hexadecimal with 0x; in a source an address may be a
-label, and a node its name.
+N, addresses, nodes and samples are decimal or hexadecimal with 0x. Of a source, an address may be
+given by a label, and a node by its name.
 SAMPLES are numbers with blanks between them, or @FILE: the bytes of that file.";
 
 /// A row of the table that `help` prints.

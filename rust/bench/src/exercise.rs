@@ -14,6 +14,8 @@ pub struct Exercise {
     pub has_position: bool,
     /// What stood before the image; a save keeps it.
     pub preface: Vec<u8>,
+    /// Whether it was assembled: only a source has labels and names its nodes.
+    pub is_source: bool,
     /// The labels of a source with their addresses; an image has none.
     pub labels: Vec<(String, u32)>,
     /// The names that a source gives the nodes, from node 1; an image has none.
@@ -39,6 +41,7 @@ impl Exercise {
         let warnings = assembled.warnings.iter();
         Ok(Exercise {
             warnings: warnings.map(|line| format!("{name}: {line}")).collect(),
+            is_source: true,
             labels: assembled.labels,
             nodes: assembled.nodes,
             ..Exercise::load(path, &assembled.image)?
@@ -58,6 +61,7 @@ impl Exercise {
             machine,
             has_position: Kind::of(image) == Some(Kind::Two),
             preface: calls::preface(image).to_vec(),
+            is_source: false,
             labels: Vec::new(),
             nodes: Vec::new(),
             warnings: Vec::new(),

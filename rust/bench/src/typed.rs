@@ -69,9 +69,9 @@ pub fn address(text: &str, exercise: &Exercise) -> Result<u32, String> {
         return beyond(address, more);
     }
     word(text).unwrap_or_else(|| {
-        let hint = match exercise.labels.is_empty() {
-            true => "; only a source has labels",
-            false => "",
+        let hint = match exercise.is_source {
+            true => "",
+            false => "; only a source has labels",
         };
         Err(format!("there is no label {}{hint}", quoted(text)))
     })
@@ -87,9 +87,9 @@ pub fn node(text: &str, exercise: &Exercise) -> Result<u32, String> {
         return Ok(node);
     }
     word(text).unwrap_or_else(|| {
-        let hint = match exercise.nodes.is_empty() {
-            true => "; only a source names nodes",
-            false => "",
+        let hint = match exercise.is_source {
+            true => "",
+            false => "; only a source names nodes",
         };
         Err(format!("there is no node {}{hint}", quoted(text)))
     })
