@@ -68,13 +68,7 @@ pub fn address(text: &str, exercise: &Exercise) -> Result<u32, String> {
     if let Some(address) = exercise.address_of(label) {
         return beyond(address, more);
     }
-    word(text).unwrap_or_else(|| {
-        let hint = match exercise.is_source {
-            true => "",
-            false => "; only a source has labels",
-        };
-        Err(format!("there is no label {}{hint}", quoted(text)))
-    })
+    word(text, exercise, "label", "; only a source has labels")
 }
 
 /// A node: a number, any word, since the call itself says which it takes, or a name of the source.
@@ -83,22 +77,19 @@ pub fn address(text: &str, exercise: &Exercise) -> Result<u32, String> {
 ///
 /// A line that says what is wrong with it.
 pub fn node(text: &str, exercise: &Exercise) -> Result<u32, String> {
-    if let Some(node) = exercise.node_of(text) {
-        return Ok(node);
+    match exercise.node_of(text) {
+        Some(node) => Ok(node),
+        None => word(text, exercise, "node", "; only a source names nodes"),
     }
-    word(text).unwrap_or_else(|| {
-        let hint = match exercise.is_source {
-            true => "",
-            false => "; only a source names nodes",
-        };
-        Err(format!("there is no node {}{hint}", quoted(text)))
-    })
 }
 
-/// A number of 32 bits; none where what was typed begins like a name.
-fn word(text: &str) -> Option<Result<u32, String>> {
-    let is_number = text.starts_with(|c: char| c.is_ascii_digit());
-    is_number.then(|| Ok(number(text, u64::from(u32::MAX))? as u32))
+/// A number of 32 bits, where what was typed is no known name of `what`; the hint is for an image.
+fn word(text: &str, exercise: &Exercise, what: &str, hint: &str) -> Result<u32, String> {
+    if text.starts_with(|c: char| c.is_ascii_digit()) {
+        return Ok(number(text, u64::from(u32::MAX))? as u32);
+    }
+    let hint = if exercise.is_source { "" } else { hint };
+    Err(format!("there is no {what} {}{hint}", quoted(text)))
 }
 
 /// An address so many words behind another, or before it: `+2`, `-1`, or nothing.
