@@ -86,16 +86,14 @@ module _ (r : Record) (mem table : List ℕ) where
       let p : badAddress r mem ≡ a = place c in
       let h : a < r .k = rw (← p) (ltb-true _ _ t) in
       let f : Found isBad 0 (r .k) a = rw (← p) found-word in
-      (w, record { code = h; bad = bad-word w a h (f .holds (omega arith)); lower = λ b k. good-word w b (omega arith) (f .below b (omega arith) k) })
+      (w, record { code = h; bad = bad-word w a h (f .holds (omega arith)); lower = λ b k. good-word w b (omega arith) (f .passed .below b (omega arith) k) })
 
   word-first : (a : ℕ) → wrongSizes r mem table ≡ false → FirstBadWord r mem a → checkOf r mem table ≡ checkedAs 7 a
   word-first a w b =
       let h = b .code in
       let f : Found isBad 0 (r .k) a =
       record {
-        least = omega arith;
-        most = omega arith;
-        below = λ v l k. tested w v (omega arith) (b .lower v k);
+        passed = record { least = omega arith; most = omega arith; below = λ v l k. tested w v (omega arith) (b .lower v k) };
         holds = λ k. tested w a h (b .bad);
       } in
       sym (check-code r mem table w a (sym (found-is isBad 0 (r .k) a f)) h)
@@ -105,9 +103,7 @@ module _ (r : Record) (mem table : List ℕ) where
   nodes-decide o =
       let f : Found isBad 0 (r .k) (r .k) =
       record {
-        least = omega arith;
-        most = omega arith;
-        below = λ v h k. tested (o .sizes) v k (o .code v k);
+        passed = record { least = omega arith; most = omega arith; below = λ v h k. tested (o .sizes) v k (o .code v k) };
         holds = λ h. absurd (omega arith);
       } in
       let e : badAddress r mem ≡ r .k = found-is isBad 0 (r .k) (r .k) f in
@@ -121,7 +117,7 @@ module _ (r : Record) (mem table : List ℕ) where
       go false w true e = absurd (k (rw (w, e) refl))
       go false w false e =
           let l = ltb-false (badAddress r mem) (r .k) e in
-          record { sizes = w; code = λ a k. good-word w a k (found-word .below a (omega arith) (omega arith)) }
+          record { sizes = w; code = λ a k. good-word w a k (found-word .passed .below a (omega arith) (omega arith)) }
 
   -- ---- node by node
 
@@ -131,10 +127,10 @@ module _ (r : Record) (mem table : List ℕ) where
       let q : badNode r table ≡ p = place c in
       let h : p ≤ r .n = rw (← q) (leb-true _ _ t) in
       let f : Found (badLinks r table) 1 (r .n) p = rw (← q) found-node in
-      let l = f .least in
+      let l = f .passed .least in
       record {
         bad = links-decide r p mem table (o .sizes) (omega arith) h ∙ rw (f .holds (omega arith));
-        lower = λ v k m. links-decide r v mem table (o .sizes) k (omega arith) ∙ rw (f .below v (omega arith) m);
+        lower = λ v k m. links-decide r v mem table (o .sizes) k (omega arith) ∙ rw (f .passed .below v (omega arith) m);
       }
 
   -- what a call on a node tells
@@ -149,9 +145,7 @@ module _ (r : Record) (mem table : List ℕ) where
   found-at w p l m below at =
       let f : Found (badLinks r table) 1 (r .n) p =
       record {
-        least = omega arith;
-        most = omega arith;
-        below = λ v h k. pick-second (badLinks r table v) (λ e. omega (arith, e)) (sym (links-decide r v mem table w (omega arith) (omega arith)) ∙ below v (omega arith) k) .0;
+        passed = record { least = omega arith; most = omega arith; below = λ v h k. pick-second (badLinks r table v) (λ e. omega (arith, e)) (sym (links-decide r v mem table w (omega arith) (omega arith)) ∙ below v (omega arith) k) .0 };
         holds = λ h. pick-first (badLinks r table p) (λ e. omega (arith, e)) (sym (links-decide r p mem table w l (omega arith)) ∙ at (omega arith)) .0;
       } in
       found-is _ 1 (r .n) p f
@@ -166,7 +160,7 @@ module _ (r : Record) (mem table : List ℕ) where
   good-told o e v h k =
       let t = pick-second (leb (badNode r table) (r .n)) (λ e. omega (arith, number e)) (sym (nodes-decide o) ∙ e) in
       let l = leb-false (badNode r table) (r .n) (t .0) in
-      links-decide r v mem table (o .sizes) h k ∙ rw (found-node .below v (omega arith) (omega arith))
+      links-decide r v mem table (o .sizes) h k ∙ rw (found-node .passed .below v (omega arith) (omega arith))
 
   good-all : InOrder r mem table → ((v : ℕ) → 0 < v → v ≤ r .n → checkNodeOf r v mem table ≡ 0) → checkOf r mem table ≡ checkedAs 0 0
   good-all o a =

@@ -24,7 +24,7 @@ first-bad-address-spec =
     (λ c. search-starts _ 0 _)
     (λ c κs. search needs) (λ c κs. search needs)
     (λ c. let g = c .before .before .before .before .before .before .args in let l = c .before .before .before .before .loop in let e = ap (λ (w : ℕ). not (isInstruction w)) (sym (c .before .before .word-at .ensures)) ∙ ap not (sym (c .before .is-instruction .ensures)) in
-    search-hits (noInstruction (take (g .m) (now (g .mem)))) 0 (g .k) (l .a) (l .inv) (omega arith) (e ∙ c .if1 .taken))
+    search-hits (noInstruction (take (g .m) (now (g .mem)))) 0 (g .k) (l .a) (l .inv) (e ∙ c .if1 .taken))
     (λ c. search needs) (λ c. search needs)
     (λ c. let g = c .before .before .before .before .before .before .args in let l = c .before .before .before .before .loop in let e = ap (λ (w : ℕ). not (isInstruction w)) (sym (c .before .before .word-at .ensures)) ∙ ap not (sym (c .before .is-instruction .ensures)) in
     search-goes-on (noInstruction (take (g .m) (now (g .mem)))) 0 (g .k) (l .a) (l .inv) (omega arith) (e ∙ c .if1 .left))

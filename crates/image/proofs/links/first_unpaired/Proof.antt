@@ -23,7 +23,7 @@ first-unpaired-spec =
     (λ c. search-starts _ 1 _)
     (λ c κs. search needs)
     (λ c. let g = c .before .before .before .before .before .args in let l = c .before .before .before .loop in
-    search-hits (unpaired (take (tableWords (g .n)) (now (g .table))) (g .n)) 1 (g .n) (l .v) (l .inv) (omega arith) (sym (c .before .is-unpaired .ensures) ∙ c .if1 .taken))
+    search-hits (unpaired (take (tableWords (g .n)) (now (g .table))) (g .n)) 1 (g .n) (l .v) (l .inv) (sym (c .before .is-unpaired .ensures) ∙ c .if1 .taken))
     (λ c. search needs) (λ c. search needs)
     (λ c. let g = c .before .before .before .before .before .args in let l = c .before .before .before .loop in
     search-goes-on (unpaired (take (tableWords (g .n)) (now (g .table))) (g .n)) 1 (g .n) (l .v) (l .inv) (omega arith) (sym (c .before .is-unpaired .ensures) ∙ c .if1 .left))
