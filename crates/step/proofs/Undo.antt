@@ -18,10 +18,11 @@ use Rattle.qins.specs.Op.Source.{Imm, Reg, Negated, Complement, Sum, Product, Q
 use Rattle.qins.proofs.Formed.{Named, Apart, Formed}
 use Rattle.step.specs.View.{View, Words, Bounds, reg, flip}
 use Rattle.step.specs.Table.{lc, cf, cl, nx, pr, w, isNode, link, paired}
-use Rattle.step.specs.Step.{performed, value, shifted, refuse, isReady, whenReady, isData, isCoin, child, enter, qif, pass, fiq, attempt}
+use Rattle.step.specs.Step.{performed, value, shifted, refuse, isReady, whenReady, isAllowed, isCoin, child, enter, qif, pass, fiq, attempt}
 use Rattle.step.specs.declared.Status.{Status}
 use Rattle.step.specs.declared.Direction.{Direction}
 use Rattle.step.specs.declared.Direction.the-variants.{Forward, Back}
+use Rattle.step.specs.declared.Access.{Access}
 use Rattle.step.specs.declared.Effect.{Effect}
 use Rattle.step.specs.declared.Effect.the-variants.{Nothing, Write, WriteTwo, SwapWord, SetNode}
 use Rattle.step.specs.declared.Attempt.{Attempt}
@@ -187,7 +188,7 @@ module _ (t : List ℕ) (s : View) (g : Bounds s) (room : s .at .m ≤ length (s
         fair = (n .0 .0, word x y (g .regs a) (g .regs b), n .1 .0, word y x (g .regs b) (g .regs a));
       })
 
-  data-in : (i : ℕ) → not (isData at i) ≡ false → (at .k ≤ i) × (i < at .m)
+  data-in : (i : ℕ) → not (isAllowed Access.Exchange at i) ≡ false → (at .k ≤ i) × (i < at .m)
   data-in i h =
       let p = and-true (leb (at .k) i) (ltb i (at .m)) (not-not _ h) in
       (leb-true (at .k) i (p .0), ltb-true i (at .m) (p .1))
@@ -321,14 +322,14 @@ module _ (t : List ℕ) (s : View) (g : Bounds s) (room : s .at .m ≤ length (s
       change-two d (SwapBits a b) a b withBit f (λ x y hx hy. bit-word x y hx) bit-back (λ l. rw (p .0)) (p .1)
   undone d (Fetch a b) f h =
       let p = was-ready _ h in
-      let q = passed (not (isData at (reg s b))) 15 _ (p .1) in
+      let q = passed (not (isAllowed Access.Copy at (reg s b))) 15 _ (p .1) in
       let y = getD (s .memory) (reg s b) 0 in
       change d (Fetch a b) a (λ x. bitXor x y) (λ x. bitXor x y) (f .0) (xor-lt 32 (reg s a) y (g .regs a) (g .words (reg s b)))
       (xor-again (reg s a) y) (rw (p .0, getD-set-other (s .regs) a b (bitXor (reg s a) y) 0 (f .1), q .0)) (q .1)
   undone d (Exchange a v) f h =
       let p = was-ready _ h in
       let i = value v (s .regs) in
-      let q = passed (not (isData at i)) 15 _ (p .1) in
+      let q = passed (not (isAllowed Access.Exchange at i)) 15 _ (p .1) in
       let l = data-in i (q .0) in
       subst (Undone t d (Exchange a v) s) (inside (q .1))
       (record {

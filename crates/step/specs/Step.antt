@@ -14,6 +14,7 @@ use Rattle.step.specs.Table.{fc, lc, cf, cl, nx, pr, w, link, paired}
 use Rattle.step.specs.declared.Status.{Status}
 use Rattle.step.specs.declared.Direction.{Direction}
 use Rattle.step.specs.declared.Direction.the-variants.{Forward, Back}
+use Rattle.step.specs.declared.Access.{Access}
 use Rattle.step.specs.declared.Effect.{Effect}
 use Rattle.step.specs.declared.Effect.the-variants.{Nothing, Write, WriteTwo, SwapWord, SetNode}
 use Rattle.step.specs.declared.Store.{Store}
@@ -101,12 +102,13 @@ isReady at = eqb (at .qifw) 0
 abbrev pub whenReady : Status → Attempt → Attempt
 whenReady at rest = refuse (not (isReady at)) 14 rest
 
--- 15 for an address not in K to M-1
-abbrev pub isData : Status → ℕ → Bool
-isData at i = leb (at .k) i && ltb i (at .m)
+-- 15 by the kind of access: a copy may read any address below M, an exchange stays in K to M-1
+abbrev pub isAllowed : Access → Status → ℕ → Bool
+isAllowed Access.Copy at i = ltb i (at .m)
+isAllowed Access.Exchange at i = leb (at .k) i && ltb i (at .m)
 
-abbrev pub whenData : Status → ℕ → Attempt → Attempt
-whenData at i rest = refuse (not (isData at i)) 15 rest
+abbrev pub whenAllowed : Access → Status → ℕ → Attempt → Attempt
+whenAllowed x at i rest = refuse (not (isAllowed x at i)) 15 rest
 
 -- 16 for a coin that is neither 0 nor 1
 abbrev pub isCoin : ℕ → Bool
@@ -164,7 +166,7 @@ module _ (t : List ℕ) where
   attempt d (Neg a) s = whenReady (s .at) (Does (Write a (subWord 0 (reg s a))))
   attempt d (Swap a b) s = whenReady (s .at) (Does (WriteTwo a (reg s b) b (reg s a)))
   attempt d (SwapBits a b) s = whenReady (s .at) (Does (WriteTwo a (withBit (reg s a) (reg s b)) b (withBit (reg s b) (reg s a))))
-  attempt d (Fetch a b) s = whenReady (s .at) (whenData (s .at) (reg s b) (Does (Write a (bitXor (reg s a) (getD (s .memory) (reg s b) 0)))))
-  attempt d (Exchange a v) s = whenReady (s .at) (whenData (s .at) (value v (s .regs)) (Does (SwapWord a (value v (s .regs)))))
+  attempt d (Fetch a b) s = whenReady (s .at) (whenAllowed Access.Copy (s .at) (reg s b) (Does (Write a (bitXor (reg s a) (getD (s .memory) (reg s b) 0)))))
+  attempt d (Exchange a v) s = whenReady (s .at) (whenAllowed Access.Exchange (s .at) (value v (s .regs)) (Does (SwapWord a (value v (s .regs)))))
   attempt d (Qif a) s = whenCoin (reg s a) (qif d (s .at) (reg s a))
   attempt d (Fiq a) s = whenReady (s .at) (whenCoin (reg s a) (fiq d (s .at) (reg s a)))

@@ -21,6 +21,12 @@ pub enum Direction {
     Back,
 }
 
+// What an instruction does with a memory word: it reads the word alone, or exchanges it with a register.
+pub enum Access {
+    Copy,
+    Exchange,
+}
+
 // What an instruction does, with its operands read.
 pub enum Effect {
     Nothing,

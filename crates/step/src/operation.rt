@@ -7,7 +7,8 @@ ghost use lib.ListN.{getD, take};
 ghost use Rattle.word.specs.Word.{pick, subWord, withBit};
 ghost use Rattle.qins.specs.Decode.{operation, decode};
 ghost use Rattle.step.specs.View.{seen, nodes};
-ghost use Rattle.step.specs.Step.{shifted, refuse, whenReady, whenData, whenCoin, child, enter, qif, pass, fiq, attempt};
+ghost use Rattle.step.specs.Step.{shifted, refuse, whenReady, isAllowed, whenAllowed, whenCoin, child, enter, qif, pass, fiq, attempt};
+use crate::Access;
 use crate::Attempt;
 use crate::Direction;
 use crate::Effect;
@@ -56,10 +57,19 @@ fn when_ready(at: Status, rest: Attempt) -> Attempt
     refused_if(at.qifw != 0, 14, rest)
 }
 
-fn when_data(at: Status, i: u32, rest: Attempt) -> Attempt
-    ensures { λ r. ⌜ r ≡ whenData at i rest ⌝ }
+fn is_allowed(x: Access, at: Status, i: u32) -> bool
+    ensures { λ r. ⌜ r ≡ isAllowed x at i ⌝ }
 {
-    refused_if(!word::both(at.k <= i, i < at.m), 15, rest)
+    match x {
+        Access::Copy => i < at.m,
+        Access::Exchange => word::both(at.k <= i, i < at.m),
+    }
+}
+
+fn when_allowed(x: Access, at: Status, i: u32, rest: Attempt) -> Attempt
+    ensures { λ r. ⌜ r ≡ whenAllowed x at i rest ⌝ }
+{
+    refused_if(!is_allowed(x, at, i), 15, rest)
 }
 
 fn when_coin(x: u32, rest: Attempt) -> Attempt
@@ -95,9 +105,17 @@ fn if_zero(x: u32, a: u32, b: u32) -> u32
 
 // A register exchanged with the word at i.
 fn exchange(at: Status, a: usize, i: u32) -> Attempt
-    ensures { λ r. ⌜ r ≡ whenReady at (whenData at i (Attempt.Does (Effect.SwapWord a i))) ⌝ }
+    ensures { λ r. ⌜ r ≡ whenReady at (whenAllowed Access.Exchange at i (Attempt.Does (Effect.SwapWord a i))) ⌝ }
 {
-    when_ready(at, when_data(at, i, Attempt::Does(Effect::SwapWord(a, i))))
+    when_ready(
+        at,
+        when_allowed(
+            Access::Exchange,
+            at,
+            i,
+            Attempt::Does(Effect::SwapWord(a, i)),
+        ),
+    )
 }
 
 // ---- qif, waiting and fiq
@@ -232,10 +250,13 @@ fn swap_bits(at: Status, regs: &[u32], a: usize, b: usize) -> Attempt
 // The word at i xored into a register.
 fn fetch(at: Status, regs: &[u32], mem: &[u32], a: usize, i: u32) -> Attempt
     ensures { λ r.
-        ⌜ r ≡ whenReady at (whenData at i (Attempt.Does (Effect.Write a (bitXor (getD (now (regs .entry)) a 0) (getD (take (at .m) (now (mem .entry))) i 0))))) ⌝ }
+        ⌜ r ≡ whenReady at (whenAllowed Access.Copy at i (Attempt.Does (Effect.Write a (bitXor (getD (now (regs .entry)) a 0) (getD (take (at .m) (now (mem .entry))) i 0))))) ⌝ }
 {
     let v = word::xor_word(look(regs, a), word_at(mem, at.m, i));
-    when_ready(at, when_data(at, i, Attempt::Does(Effect::Write(a, v))))
+    when_ready(
+        at,
+        when_allowed(Access::Copy, at, i, Attempt::Does(Effect::Write(a, v))),
+    )
 }
 
 // ---- every instruction word, by its fields. It is executed as it is decoded: the operation that

@@ -7,4 +7,4 @@ exchange-spec =
     tie.close
     (tie.spec
     (λ c κs. search needs) (λ c κs. search needs)
-    (λ c. simp (c .when-ready .ensures, c .before .when-data .ensures)))
+    (λ c. simp (c .when-ready .ensures, c .before .when-allowed .ensures)))

@@ -7,4 +7,4 @@ fetch-spec =
     tie.close
     (tie.spec
     (λ c κs. search needs) (λ c κs. search needs) (λ c κs. search needs) (λ c κs. search needs) (λ c κs. search needs)
-    (λ c. simp (c .when-ready .ensures, c .before .when-data .ensures, c .before .before .xor-word .ensures, c .before .before .before .word-at .ensures, c .before .before .before .before .look .ensures)))
+    (λ c. simp (c .when-ready .ensures, c .before .when-allowed .ensures, c .before .before .xor-word .ensures, c .before .before .before .word-at .ensures, c .before .before .before .before .look .ensures)))
