@@ -2,5 +2,6 @@ pub mod Views
 pub mod Sized
 pub mod Known
 pub mod Numbers
+pub mod Addresses
 pub mod Undo
 pub mod Stores

@@ -5,11 +5,11 @@ use mathlib.Core.Bool.{Bool, true, false, not, _&&_}
 use mathlib.Core.List.{List, [], _∷_}
 use Prim.Native.Nat.{ℕ, zero, suc, _+_, _-_, _^_, _<_, _≤_}
 use native.Mathlib.Omega.{arith}
-use lib.Dec.{eqb, ltb, leb}
+use lib.Dec.{eqb, ltb}
 use lib.ListN.{length, getD, set, length-set}
 use lib.Seq.{getD-set-same, getD-set-other, set-getD, set-set, set-comm}
 use lib.Bits.{bitXor, xor-lt}
-use borrow.Author.Tests.{ltb-true, ltb-false, leb-true, eqb-true, eqb-false, lt-ltb, le-ltb, ne-eqb}
+use borrow.Author.Tests.{ltb-true, ltb-false, eqb-true, eqb-false, lt-ltb, le-ltb, ne-eqb}
 use Rattle.word.specs.Word.{pick, subWord, withBit}
 use Rattle.word.proofs.Words.{xor-again, add-sub, sub-add, neg-neg, bit-back, bit-word, add-word, sub-word, mul-word, div-word, pick-word, and-true, not-not}
 use Rattle.qins.specs.Op.{Op, Source}
@@ -27,6 +27,7 @@ use Rattle.step.specs.declared.Effect.{Effect}
 use Rattle.step.specs.declared.Effect.the-variants.{Nothing, Write, WriteTwo, SwapWord, SetNode}
 use Rattle.step.specs.declared.Attempt.{Attempt}
 use Rattle.step.specs.declared.Attempt.the-variants.{Refused, Does}
+use Rattle.step.proofs.Addresses.{allowed-within}
 
 -- an effect that spares pc and the code, writes words, and stores within the memory
 abbrev pub Fair : Effect → Status → Type 0
@@ -188,11 +189,6 @@ module _ (t : List ℕ) (s : View) (g : Bounds s) (room : s .at .m ≤ length (s
         fair = (n .0 .0, word x y (g .regs a) (g .regs b), n .1 .0, word y x (g .regs b) (g .regs a));
       })
 
-  data-in : (i : ℕ) → not (isAllowed Access.Exchange at i) ≡ false → (at .k ≤ i) × (i < at .m)
-  data-in i h =
-      let p = and-true (leb (at .k) i) (ltb i (at .m)) (not-not _ h) in
-      (leb-true (at .k) i (p .0), ltb-true i (at .m) (p .1))
-
   -- ---- qif and fiq set the node and the wait count
 
   visit : (d : Direction) (o : Op) (u j v i : ℕ) → attempt t (flip d) o (performed (SetNode u j) s) ≡ Does (SetNode v i) → v ≡ at .qifv → i ≡ at .qifw
@@ -330,7 +326,7 @@ module _ (t : List ℕ) (s : View) (g : Bounds s) (room : s .at .m ≤ length (s
       let p = was-ready _ h in
       let i = value v (s .regs) in
       let q = passed (not (isAllowed Access.Exchange at i)) 15 _ (p .1) in
-      let l = data-in i (q .0) in
+      let l = allowed-within Access.Exchange at i .0 (not-not _ (q .0)) in
       subst (Undone t d (Exchange a v) s) (inside (q .1))
       (record {
         by = SwapWord a i;

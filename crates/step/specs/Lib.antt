@@ -2,3 +2,4 @@ pub mod Table
 pub mod View
 pub mod Sizes
 pub mod Step
+pub mod Claims
