@@ -10,5 +10,6 @@ pub mod Batches
 pub mod Loops
 pub mod Runs
 pub mod Marks
+pub mod Accesses
 pub mod Instruction
 pub mod Shown

@@ -1,4 +1,5 @@
--- Document 01's twelve bench marks, as one table of turns under one statement. Proved in proofs/Marks.
+-- Document 01's twelve bench marks, with the rows that document 02 adds, as one table of turns under one statement. Proved in
+-- proofs/Marks.
 use Prim.Native.Nat.{ℕ}
 use mathlib.Core.Path.{_≡_}
 use mathlib.Core.List.{List, [], _∷_}
@@ -82,6 +83,22 @@ marks =
     ∷ row Forward (at 0 0 9 0 0 2 3 0 (0x01400001 ∷ 0 ∷ 6 ∷ [])) (15 ∷ 0 ∷ 0 ∷ 9 ∷ 0 ∷ 0 ∷ 0 ∷ 0x01400001 ∷ 0 ∷ 6 ∷ [])
     ∷ row Forward (at 0 0 9 0 0 2 3 0 (0x01400003 ∷ 0 ∷ 6 ∷ [])) (15 ∷ 0 ∷ 0 ∷ 9 ∷ 0 ∷ 0 ∷ 0 ∷ 0x01400003 ∷ 0 ∷ 6 ∷ [])
     ∷ row Forward (at 0 0 9 0 0 2 3 0 (0x01400002 ∷ 0 ∷ 6 ∷ [])) (0 ∷ 1 ∷ 0 ∷ 6 ∷ 0 ∷ 0 ∷ 0 ∷ 0x01400002 ∷ 0 ∷ 9 ∷ [])
+    -- and of document 02, #106: fetr(r1,r2) at K-1 reads a code word, and is undone; at M: 15, either way
+    ∷ row Forward (at 0 0 9 1 0 2 3 0 (0x11450000 ∷ 5 ∷ 6 ∷ [])) (0 ∷ 1 ∷ 0 ∷ 12 ∷ 1 ∷ 0 ∷ 0 ∷ 0x11450000 ∷ 5 ∷ 6 ∷ [])
+    ∷ row Back (at 1 0 12 1 0 2 3 0 (0x11450000 ∷ 5 ∷ 6 ∷ [])) (0 ∷ 0 ∷ 0 ∷ 9 ∷ 1 ∷ 0 ∷ 0 ∷ 0x11450000 ∷ 5 ∷ 6 ∷ [])
+    ∷ row Forward (at 0 0 9 3 0 2 3 0 (0x11450000 ∷ 5 ∷ 6 ∷ [])) (15 ∷ 0 ∷ 0 ∷ 9 ∷ 3 ∷ 0 ∷ 0 ∷ 0x11450000 ∷ 5 ∷ 6 ∷ [])
+    ∷ row Back (at 1 0 9 3 0 2 3 0 (0x11450000 ∷ 5 ∷ 6 ∷ [])) (15 ∷ 1 ∷ 0 ∷ 9 ∷ 3 ∷ 0 ∷ 0 ∷ 0x11450000 ∷ 5 ∷ 6 ∷ [])
+    -- at K it reads a data word
+    ∷ row Forward (at 0 0 9 2 0 2 3 0 (0x11450000 ∷ 5 ∷ 6 ∷ [])) (0 ∷ 1 ∷ 0 ∷ 15 ∷ 2 ∷ 0 ∷ 0 ∷ 0x11450000 ∷ 5 ∷ 6 ∷ [])
+    -- ldr(r1,r2) as ld: at K-1 and M 15, at K done
+    ∷ row Forward (at 0 0 9 1 0 2 3 0 (0x10450000 ∷ 5 ∷ 6 ∷ [])) (15 ∷ 0 ∷ 0 ∷ 9 ∷ 1 ∷ 0 ∷ 0 ∷ 0x10450000 ∷ 5 ∷ 6 ∷ [])
+    ∷ row Forward (at 0 0 9 3 0 2 3 0 (0x10450000 ∷ 5 ∷ 6 ∷ [])) (15 ∷ 0 ∷ 0 ∷ 9 ∷ 3 ∷ 0 ∷ 0 ∷ 0x10450000 ∷ 5 ∷ 6 ∷ [])
+    ∷ row Forward (at 0 0 9 2 0 2 3 0 (0x10450000 ∷ 5 ∷ 6 ∷ [])) (0 ∷ 1 ∷ 0 ∷ 6 ∷ 2 ∷ 0 ∷ 0 ∷ 0x10450000 ∷ 5 ∷ 9 ∷ [])
+    -- fetr(r1,pc) reads its own word; undone, the word at the shrunk pc
+    ∷ row Forward (at 7 0 9 0 0 9 9 0 (atSeven 0x11400000)) (0 ∷ 8 ∷ 0 ∷ 0x11400009 ∷ 0 ∷ 0 ∷ 0 ∷ atSeven 0x11400000)
+    ∷ row Back (at 8 0 0x11400009 0 0 9 9 0 (atSeven 0x11400000)) (0 ∷ 7 ∷ 0 ∷ 9 ∷ 0 ∷ 0 ∷ 0 ∷ atSeven 0x11400000)
+    -- ldr(r1,pc): 15
+    ∷ row Forward (at 7 0 9 0 0 9 9 0 (atSeven 0x10400000)) (15 ∷ 7 ∷ 0 ∷ 9 ∷ 0 ∷ 0 ∷ 0 ∷ atSeven 0x10400000)
     -- (i) 7 divided by 0 gives 0, which leaves r1 as it is: arib(r1,r2,r3,3); by pc, 7, it gives 1: arib(r1,r2,pc,3)
     ∷ row Forward (at 0 0 9 7 0 1 1 0 (0x23456300 ∷ [])) (0 ∷ 1 ∷ 0 ∷ 9 ∷ 7 ∷ 0 ∷ 0 ∷ 0x23456300 ∷ [])
     ∷ row Forward (at 7 0 9 7 0 9 9 0 (atSeven 0x23450300)) (0 ∷ 8 ∷ 0 ∷ 8 ∷ 7 ∷ 0 ∷ 0 ∷ atSeven 0x23450300)

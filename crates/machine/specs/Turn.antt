@@ -5,6 +5,7 @@ use mathlib.Core.List.{List}
 use lib.Dec.{eqb, ltb}
 use lib.ListN.{getD, set}
 use Rattle.word.specs.Word.{pick}
+use Rattle.qins.specs.Op.{Op}
 use Rattle.qins.specs.Decode.{decode, startWord, finishWord}
 use Rattle.step.specs.declared.Direction.{Direction}
 use Rattle.step.specs.declared.Direction.the-variants.{Forward, Back}
@@ -83,9 +84,13 @@ judged t Back last old s a =
     (refuse (isReady (s .at) && finishes (s .memory) (pc s)) 18
     a))))
 
+-- the operation at pc
+abbrev pub present : View → Op
+present s = decode (getD (s .memory) (pc s) 0)
+
 -- the word's own: 13 to 17 and 14
 abbrev pub executed : List ℕ → Direction → View → Attempt
-executed t d s = attempt t d (decode (getD (s .memory) (pc s) 0)) s
+executed t d s = attempt t d (present s) s
 
 -- and, forward, 18 behind it: the new pc, if it moved, is at start; no effect writes a code word, so the memory before it serves
 unfoldable pub landed : Direction → View → Attempt → Attempt
