@@ -1,9 +1,9 @@
-//! What is taken, but can hardly be meant: an `ld` of no data word, a link that nothing pairs.
+//! What is taken, but can hardly be meant: an exchange of no data word, a link that nothing pairs.
 
 use crate::instruction::Instruction;
 use crate::source::{Source, Word};
 use crate::Warning;
-use crank::Machine;
+use crank::{Machine, PC};
 
 /// The warnings on a source that became `machine`, in the order of lines.
 pub fn of(source: &Source<'_>, machine: &Machine) -> Vec<Warning> {
@@ -13,19 +13,26 @@ pub fn of(source: &Source<'_>, machine: &Machine) -> Vec<Warning> {
     warnings
 }
 
-/// The instructions with their lines; a word written as a number is nobody's mistake.
+/// The instructions with their lines and addresses; a word written as a number is nobody's mistake.
 fn instructions<'a>(
     source: &'a Source<'_>,
     machine: &'a Machine,
-) -> impl Iterator<Item = (usize, Instruction)> + 'a {
-    let words = source.code.iter().zip(&machine.mem);
-    words.filter_map(|((line, written), word)| match written {
-        Word::Instruction(..) => Some((*line, Instruction::of(*word)?)),
+) -> impl Iterator<Item = (usize, i64, Instruction)> + 'a {
+    let words = source.code.iter().zip(&machine.mem).zip(0..);
+    words.filter_map(|(((line, written), word), own)| match written {
+        Word::Instruction(..) => Some((*line, own, Instruction::of(*word)?)),
         _ => None,
     })
 }
 
-/// Every `ld` whose address is no data word.
+/// The address of an exchange, where it is known before any turn: that of an `ld`, and an `ldr`'s own
+/// where pc has it.
+fn exchanged(own: i64, instruction: &Instruction) -> Option<i64> {
+    let of_pc = instruction.form.name == "ldr" && instruction.values[1] == PC as i64;
+    instruction.address().or(of_pc.then_some(own))
+}
+
+/// Every exchange whose address is known to be no data word's.
 fn addresses(source: &Source<'_>, machine: &Machine) -> Vec<Warning> {
     let (k, m) = (machine.record.k, machine.record.m);
     let data = match m - k {
@@ -34,8 +41,8 @@ fn addresses(source: &Source<'_>, machine: &Machine) -> Vec<Warning> {
     };
     let outside = |address: &i64| !(i64::from(k)..i64::from(m)).contains(address);
     instructions(source, machine)
-        .filter_map(|(line, instruction)| {
-            let address = instruction.address().filter(outside)?;
+        .filter_map(|(line, own, instruction)| {
+            let address = exchanged(own, &instruction).filter(outside)?;
             let message = format!("{data}, so address {address} is refused by 15 in a turn");
             Some(Warning { line, message })
         })

@@ -46,6 +46,17 @@ fn bounds_of_the_data() {
     assert_eq!(outside, [0, 1, 2, 3, k - 1, m, m + 1, m + 2]);
 }
 
+/// By pc an `ldr` exchanges its own word, which is code, where a `fetr` may copy it.
+#[test]
+fn own_word() {
+    let source = |name: &str| format!("start\n{name} r1, pc\n{name} r1, r2\n.data\n.word 1");
+    let want = "line 2: warning: data words are 3 to 3, so address 1 is refused by 15 in a turn";
+    assert_eq!(warnings(&source("ldr")), [want]);
+    assert_eq!(ends_by(&source("ldr")), 15);
+    assert_eq!(warnings(&source("fetr")), [""; 0]);
+    assert_eq!(ends_by(&source("fetr")), 11);
+}
+
 /// The lowest node alone is told, and a word that is no instruction does not hide it.
 #[test]
 fn unpaired_links() {
@@ -84,6 +95,8 @@ fn by_line() {
 fn none() {
     for source in [
         "start\nld r1, d\n.data\nd: .word 1",
+        // A constant in the code may be copied.
+        "start\nxori r1, c\nfetr r2, r1\nfinish\nc: .word 7",
         // Written as numbers, code words are nobody's mistake.
         "start\n.word 0x01400001, 7, 0x18400000",
         "qif r1\n.qifv 1\n.node 1 fc0=2\n.node 2 cf=1",
