@@ -8,8 +8,9 @@
  *
  * An image is of kind 1, stands at a start and runs to a finish. Its file need have no preface: the
  * program puts some before it. It is taken as it is, and as images of kind 2 at several positions. Ends
- * with 1 at the first difference, and also where no image waits, no preview has a memory word that
- * changes or an exchange that changes none, or some refusal was never met.
+ * with 1 at the first difference, and also where no image waits, none has a constant among its code, no
+ * preview has a memory word that changes or an exchange that changes none, or some refusal was never
+ * met.
  */
 #include <stdio.h>
 #include <stdlib.h>
@@ -64,7 +65,7 @@ static const char *image = "", *calls = "";
 
 /* What was covered. */
 static unsigned long turned[2], waited, sampled, refused[22], prefaced, empty, positions,
-    nodes;
+    nodes, constants;
 static struct {
     unsigned long made;
     unsigned long words; /* that would change */
@@ -589,13 +590,26 @@ static void expect_load_refused(const File *file, uint32_t mem_len, uint32_t tab
 
 /* ---- What is done with an image ---- */
 
+/* Where the one example with constants among its code has the first; K in every other image. */
+static uint32_t first_constant(const Machine *m)
+{
+    return strstr(image, "constants.img") != NULL ? 2 : m->bench.state.k;
+}
+
 static void checks(const Machine *start)
 {
-    expect_check(start, 0, 0);
-    expect_paired(start);
-    for (size_t i = 0; i < start->bench.state.k; i++) {
+    const uint32_t place = first_constant(start);
+    for (size_t i = 0; i < place; i++) {
         demand(qins_is_instruction(start->mem[i]) == 1, "a code word is no instruction");
     }
+    if (place < start->bench.state.k) {
+        demand(qins_is_instruction(start->mem[place]) == 0, "a constant is an instruction");
+        expect_check(start, 7, place);
+        constants++;
+    } else {
+        expect_check(start, 0, 0);
+    }
+    expect_paired(start);
     demand(qins_is_instruction(0) == 0, "0 is an instruction");
 }
 
@@ -748,14 +762,15 @@ static void refused_contents(const Machine *start)
     expect_save_refused(start, image_length(r) - 1, 9);
     m = *start;
     m.mem[r->k - 1] = 0;
-    expect_check(&m, 7, r->k - 1);
+    const uint32_t place = first_constant(start) < r->k ? first_constant(start) : r->k - 1;
+    expect_check(&m, 7, place);
     expect_paired(&m);
     if (r->n > 0) {
         m.table[0] = r->n + 1;
         expect_node(&m, 1, 8);
         m.mem[r->k - 1] = start->mem[r->k - 1];
         expect_node(&m, 1, 8);
-        expect_check(&m, 8, 1);
+        expect_check(&m, place < r->k - 1 ? 7 : 8, place < r->k - 1 ? place : 1);
     }
 }
 
@@ -861,15 +876,16 @@ static void report(int images)
     demand(empty > 0, "no batch of 0 was tried");
     demand(positions > 0, "no end of the position was tried");
     demand(nodes > 0, "no node was checked by itself");
+    demand(constants > 0, "no image has a constant among its code");
     for (size_t i = 0; i < sizeof MET / sizeof *MET; i++) {
         demand(refused[MET[i]] > 0, "a refusal was never met");
         total += refused[MET[i]];
     }
     printf("roundtrip: images %d; turns forward %lu, back %lu; single turns out of a wait %lu; "
            "batches of 0 %lu; samples %lu; loads behind a preface %lu; ends of the position %lu; "
-           "checks of a node %lu; calls refused %lu\n",
+           "checks of a node %lu; of code with a constant %lu; calls refused %lu\n",
            images, turned[FORWARD], turned[BACK], waited, empty, sampled, prefaced, positions,
-           nodes, total);
+           nodes, constants, total);
     report_previews("forward", FORWARD);
     report_previews("back", BACK);
 }

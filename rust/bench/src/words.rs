@@ -17,9 +17,9 @@ pub fn code_word(value: u32) -> String {
     format!("{} ({value:#010x})", instruction(value))
 }
 
-/// The instruction that a word is.
+/// The instruction that a word is; of a constant in the code the number.
 pub fn instruction(value: u32) -> String {
-    instruction_text(value).unwrap_or_else(|| "no instruction".to_string())
+    instruction_text(value).unwrap_or_else(|| format!("{value}, no instruction"))
 }
 
 /// A direction in words, and the call that turns so.

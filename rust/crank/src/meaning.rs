@@ -32,7 +32,7 @@ pub fn meaning(refusal: u32, call: Call) -> &'static str {
         (13, Call::Back) => "the word to be undone is no instruction",
         (13, _) => "the word at pc is no instruction",
         (14, _) => "a wait is left, but not at a qif or above the w of the node",
-        (15, _) => "the address is no data word, K to M-1",
+        (15, _) => "the address is not in K to M-1 (ld, ldr) or not below M (fetr)",
         (16, _) => "the coin is not 0 or 1",
         (17, Call::Check) => "the node is not 1 to N",
         (17, _) => "a node is not 1 to N, or a link of the table does not return",

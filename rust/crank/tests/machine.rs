@@ -240,19 +240,31 @@ fn no_bad_nodes(n: u32) -> Vec<u32> {
     [&[17][..], &vec![0; n as usize], &[17]].concat()
 }
 
+/// Where the one example with constants among its code has the first.
+fn first_constant(name: &str) -> Option<u32> {
+    (name == "constants.img").then_some(2)
+}
+
 #[test]
 fn checked() {
-    let (mut words, mut links, mut nodes) = (0, 0, 0);
+    let (mut words, mut links, mut nodes, mut constants) = (0, 0, 0, 0);
     for (name, _, machine) in examples() {
         let found = |machine: &Machine| (machine.check().refusal, machine.check().place);
-        assert_eq!(found(&machine), (0, 0), "{name}");
+        let constant = first_constant(&name);
+        assert_eq!(
+            found(&machine),
+            constant.map_or((0, 0), |at| (7, at)),
+            "{name}"
+        );
+        constants += constant.iter().len();
         let n = machine.record.n;
         assert_eq!(by_node(&machine), no_bad_nodes(n), "{name}");
         nodes += n;
         for address in 0..machine.record.k {
             let mut spoilt = machine.clone();
             spoilt.mem[address as usize] = u32::MAX;
-            assert_eq!(found(&spoilt), (7, address), "{name}");
+            let lowest = constant.map_or(address, |at| at.min(address));
+            assert_eq!(found(&spoilt), (7, lowest), "{name}");
             assert_eq!(by_node(&spoilt), no_bad_nodes(n), "{name}");
             words += 1;
         }
@@ -261,15 +273,22 @@ fn checked() {
             // The next of the last node, which has none.
             let at = spoilt.table.len() - 3;
             spoilt.table[at] = n;
-            assert_eq!(found(&spoilt), (8, n), "{name}");
+            assert_eq!(
+                found(&spoilt),
+                constant.map_or((8, n), |at| (7, at)),
+                "{name}"
+            );
             let mut answers = no_bad_nodes(n);
             answers[n as usize] = 8;
             assert_eq!(by_node(&spoilt), answers, "{name}");
             links += 1;
         }
     }
-    println!("machine: {words} code words and {links} links that are no good, {nodes} nodes");
-    assert!(words > 50 && links > 1 && nodes > 10);
+    println!(
+        "machine: {words} code words and {links} links that are no good, {nodes} nodes, \
+         {constants} with a constant"
+    );
+    assert!(words > 50 && links > 1 && nodes > 10 && constants > 0);
 }
 
 /// Any number of turns, none and more than there are, from either end.

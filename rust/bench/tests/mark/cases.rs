@@ -177,7 +177,7 @@ stands at start
 does not fit: 1 difference
   code word 9 expected finish (0x1b000000), found ld r1, 0 (0x01400000)
 the hand-in does not stand at finish; turn 1 from there is refused by 15: \
-the address is no data word, K to M-1
+the address is not in K to M-1 (ld, ldr) or not below M (fetr)
 left changed between start and finish: cannot be told, since finish is not reached
 ";
     let ran = mark(&hand_in, 35, 0, Some("loop.img"));
@@ -227,7 +227,7 @@ does not fit: 20 differences
   r12 expected 0, found 70000 (0x11170)
   node expected 1, found 7
   wait expected 0, found 2
-  code word 0 expected start (0x1a000000), found no instruction (0x1a000001)
+  code word 0 expected start (0x1a000000), found 436207617, no instruction (0x1a000001)
   data word 12 expected none, found 3
   node 3 w expected 0, found 5
 ";

@@ -86,7 +86,7 @@ fn word(value: i64) -> String {
 
 fn code_word(value: i64) -> String {
     let text = crank_assembler::instruction_text(value as u32);
-    let text = text.unwrap_or("no instruction".to_string());
+    let text = text.unwrap_or_else(|| format!("{value}, no instruction"));
     format!("{text} (0x{value:08x})")
 }
 

@@ -125,7 +125,7 @@ const LINES: [(&str, &str); 39] = [
     (
         "code.img 7 0",
         "code.img: does not fit: code word 9 expected finish (0x1b000000), \
-         found no instruction (0xffffffff)",
+         found 4294967295, no instruction (0xffffffff)",
     ),
     (
         "data.img 7 0",
