@@ -136,9 +136,11 @@ CRANK_LAYOUT(offsetof(Sampled, refusal) == 28, "Sampled: last, then refusal");
  * A call takes the record by value and answers with the new one. A turn is refused by 10 where k, m
  * or n of the record is out of range, mem is shorter than m words or table than 9 * n. Longer ones
  * may be lent: the excess is never touched. Only data words of mem change, and nothing writes the
- * table. An accepted turn, a wait too, changes the position by one; directly after 10, whatever the
- * word is, a turn forward is refused by 21 at INT64_MAX and one back at INT64_MIN. A batch of 0 turns
- * makes none and answers refusal 0, whatever the state is.
+ * table. A fetr, which copies, may read any word below m, code too, and is refused by 15 at an address
+ * of m or more; an ld or ldr, which exchanges, is refused by 15 outside k to m - 1. An accepted turn,
+ * a wait too, changes the position by one; directly after 10, whatever the word is, a turn forward is
+ * refused by 21 at INT64_MAX and one back at INT64_MIN. A batch of 0 turns makes none and answers
+ * refusal 0, whatever the state is.
  */
 
 /* 1 where the word is an instruction, else 0. */

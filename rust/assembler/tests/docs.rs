@@ -1,5 +1,6 @@
 //! The samples of `docs/ASSEMBLER.md` are what the programs write.
 
+use crank::{Direction, Machine};
 use crank_assembler::{assemble, disassemble, listing};
 use std::fs;
 use std::path::Path;
@@ -14,11 +15,21 @@ fn blocks() -> Vec<String> {
         .collect()
 }
 
+/// The constant is read, and the run ends before it.
+fn reads_constant(source: &str) {
+    let assembled = assemble(source).expect("the constant");
+    assert_eq!(assembled.warnings, []);
+    let mut machine = Machine::load(&assembled.image).expect("it is an image");
+    assert_eq!(machine.turns(Direction::Forward, 100).refusal, 12);
+    assert_eq!(machine.record.regs[5], 1_000_003);
+}
+
 #[test]
 fn samples() {
-    let [source, _output, rows, disassembled] = &blocks()[..] else {
+    let [constant, source, _output, rows, disassembled] = &blocks()[..] else {
         panic!("the document has other blocks");
     };
+    reads_constant(constant);
     let assembled = assemble(source).expect("the example");
     assert_eq!(assembled.warnings, []);
     assert_eq!(assembled.image.len(), 7 + 288);
