@@ -46,6 +46,23 @@ pub enum Instruction {
 
 use Instruction::*;
 
+/// What an instruction does with the word at an address.
+#[derive(Clone, Copy, Debug, PartialEq, Eq)]
+pub enum Access {
+    /// Reads it alone: fetr.
+    Copy(u32),
+    /// Swaps it with a register: ld and ldr.
+    Exchange(u32),
+}
+
+impl Access {
+    pub fn address(self) -> u32 {
+        match self {
+            Access::Copy(address) | Access::Exchange(address) => address,
+        }
+    }
+}
+
 /// Every opcode and para that is an instruction; para 0 outside type O.
 pub const KINDS: [(u32, u32); 29] = [
     (1, 0),
@@ -192,11 +209,12 @@ fn decode_o(word: u32) -> Option<Instruction> {
 }
 
 impl Instruction {
-    /// The data address it works on, if it works on one.
-    pub fn address(self, regs: &[u32; 16]) -> Option<u32> {
+    /// Its access to memory, if it has one.
+    pub fn access(self, regs: &[u32; 16]) -> Option<Access> {
         match self {
-            Ld { imm, .. } => Some(imm),
-            Ldr { b, .. } | Fetr { b, .. } => Some(regs[b as usize]),
+            Ld { imm, .. } => Some(Access::Exchange(imm)),
+            Ldr { b, .. } => Some(Access::Exchange(regs[b as usize])),
+            Fetr { b, .. } => Some(Access::Copy(regs[b as usize])),
             _ => None,
         }
     }

@@ -1,7 +1,7 @@
 //! The machine: its state, single turns both ways, and batches.
 
 use crate::instruction::Instruction::{self, *};
-use crate::instruction::{decode, BR, FINISH, PC, START};
+use crate::instruction::{decode, Access, BR, FINISH, PC, START};
 
 pub const MAX_M: u32 = 8192;
 pub const MAX_N: u32 = 511;
@@ -51,7 +51,7 @@ pub fn link(table: &[u32], n: u32, node: u32, field: usize) -> Option<u32> {
 }
 
 /// How far pc moves in a turn that ends with this br.
-fn step(br: u32) -> u32 {
+pub fn step(br: u32) -> u32 {
     if br == 0 {
         1
     } else {
@@ -59,8 +59,8 @@ fn step(br: u32) -> u32 {
     }
 }
 
-/// The effect of an instruction on the registers and on the data word that
-/// it addresses; other instructions leave `cell` alone.
+/// The effect of an instruction on the registers and on the word that it
+/// exchanges; other instructions leave `cell` alone.
 fn effect(ins: Instruction, g: &mut [u32; 16], cell: &mut u32) {
     match ins {
         Ld { a, .. } | Ldr { a, .. } => std::mem::swap(&mut g[a as usize], cell),
@@ -191,9 +191,13 @@ fn require(holds: bool, refusal: u32) -> Result<(), u32> {
     }
 }
 
-/// Whether the address, if there is one, is K to M-1.
-fn address_holds(address: Option<u32>, r: &Record) -> bool {
-    address.is_none_or(|a| a >= r.k && a < r.m)
+/// Whether the address is good for the kind of access (document 02, #106): a
+/// copy alters nothing, so it may read code, too.
+fn address_holds(access: Access, r: &Record) -> bool {
+    match access {
+        Access::Copy(address) => address < r.m,
+        Access::Exchange(address) => (r.k..r.m).contains(&address),
+    }
 }
 
 /// Whether the coin, if there is one, is 0 or 1.
@@ -206,16 +210,27 @@ fn code_holds(r: &Record, mem: &[u32], address: u32, word: u32) -> bool {
     address < r.k && mem[address as usize] == word
 }
 
-/// The word at the data address; 0 if there is none.
-fn read_cell(address: Option<u32>, mem: &[u32]) -> u32 {
-    address.map_or(0, |a| mem[a as usize])
+/// The word that is copied or exchanged; 0 without an access.
+fn read_cell(access: Option<Access>, mem: &[u32]) -> u32 {
+    access.map_or(0, |access| mem[access.address() as usize])
 }
 
-/// Writes the word at the data address, if there is one.
-fn write_cell(address: Option<u32>, mem: &mut [u32], cell: u32) {
-    if let Some(a) = address {
-        mem[a as usize] = cell;
+/// Writes the word of an exchange.
+fn write_cell(access: Option<Access>, mem: &mut [u32], cell: u32) {
+    if let Some(Access::Exchange(address)) = access {
+        mem[address as usize] = cell;
     }
+}
+
+/// The instruction at pc and its access to memory, by refusals 13 to 16, which
+/// are the same for executing and for undoing it.
+fn fetch(r: &Record, mem: &[u32]) -> Result<(Instruction, Option<Access>), u32> {
+    let ins = decode(mem[r.regs[PC] as usize]).ok_or(13u32)?;
+    require(r.qifw == 0 || ins.is_qif(), 14)?;
+    let access = ins.access(&r.regs);
+    require(access.is_none_or(|access| address_holds(access, r)), 15)?;
+    require(coin_holds(ins, r), 16)?;
+    Ok((ins, access))
 }
 
 /// A forward turn, with the refusals in their order. Memory is written only
@@ -226,14 +241,10 @@ fn forward_turn(r: &mut Record, mem: &mut [u32], table: &[u32]) -> Result<(), u3
     let pc = r.regs[PC];
     require(pc < r.k, 11)?;
     require(!code_holds(r, mem, pc, FINISH), 12)?;
-    let ins = decode(mem[pc as usize]).ok_or(13u32)?;
-    require(r.qifw == 0 || ins.is_qif(), 14)?;
-    let address = ins.address(&r.regs);
-    require(address_holds(address, r), 15)?;
-    require(coin_holds(ins, r), 16)?;
+    let (ins, access) = fetch(r, mem)?;
     let walk = walk_forward(ins, r, table).ok_or(17u32)?;
     require(r.qifw <= walk.most, 14)?;
-    let mut cell = read_cell(address, mem);
+    let mut cell = read_cell(access, mem);
     effect(ins, &mut r.regs, &mut cell);
     r.qifv = walk.qifv;
     r.qifw = walk.qifw;
@@ -241,7 +252,7 @@ fn forward_turn(r: &mut Record, mem: &mut [u32], table: &[u32]) -> Result<(), u3
         r.regs[PC] = pc.wrapping_add(step(r.regs[BR]));
         require(!code_holds(r, mem, r.regs[PC], START), 18)?;
     }
-    write_cell(address, mem, cell);
+    write_cell(access, mem, cell);
     Ok(())
 }
 
@@ -258,18 +269,14 @@ fn back_turn(r: &mut Record, mem: &mut [u32], table: &[u32]) -> Result<(), u32> 
     let pc = r.regs[PC];
     require(pc < r.k, 11)?;
     require(r.qifw > 0 || !code_holds(r, mem, pc, FINISH), 18)?;
-    let ins = decode(mem[pc as usize]).ok_or(13u32)?;
-    require(r.qifw == 0 || ins.is_qif(), 14)?;
-    let address = ins.address(&r.regs);
-    require(address_holds(address, r), 15)?;
-    require(coin_holds(ins, r), 16)?;
+    let (ins, access) = fetch(r, mem)?;
     let walk = walk_back(ins, r, table).ok_or(17u32)?;
     require(r.qifw <= walk.most, 14)?;
-    let mut cell = read_cell(address, mem);
+    let mut cell = read_cell(access, mem);
     effect(ins.inverse(), &mut r.regs, &mut cell);
     r.qifv = walk.qifv;
     r.qifw = walk.qifw;
-    write_cell(address, mem, cell);
+    write_cell(access, mem, cell);
     Ok(())
 }
 

@@ -1,4 +1,5 @@
-//! The twelve bench marks, on the model and on the library.
+//! The twelve bench marks, and those of a fetr (document 02, #106), on the model
+//! and on the library.
 
 mod proved;
 
@@ -80,6 +81,26 @@ fn h_data_addresses(forward: Turn, back: Turn) {
     }
 }
 
+/// A fetr at K-1 reads the code word there, and is undone; at M it is 15, with a
+/// word lent there, too.
+fn fetr_addresses(forward: Turn, back: Turn) {
+    let mut start = machine_of(&[word_r(17, R1, R2), 0xC0DE_C0DE], &[77]);
+    start.mem.push(99);
+    start.record.regs[R1] = 0x0000_0001;
+    for (address, refusal, r1) in [(1, 0, 0xC0DE_C0DF), (3, 15, 1)] {
+        start.record.regs[R2] = address;
+        let mut m = start.clone();
+        assert_eq!(m.turn(forward), refusal);
+        assert_eq!(m.record.regs[R1], r1);
+        assert_eq!(m.mem, [0x1145_0000, 0xC0DE_C0DE, 77, 99]);
+        if refusal == 0 {
+            assert_eq!(m.record.regs[0], 1);
+            assert_eq!(m.turn(back), 0);
+        }
+        assert_eq!(m, start);
+    }
+}
+
 /// Quotient 0 leaves r1; another quotient shows that the word does something.
 fn i_division_by_zero(forward: Turn) {
     for (divisor, r1) in [(0, 9), (7, 8), (2, 10)] {
@@ -146,9 +167,11 @@ fn marks(forward: Turn, back: Turn, is_instruction: fn(u32) -> bool) {
     d_e_pc_moves(forward);
     f_g_branches(forward);
     h_data_addresses(forward, back);
+    fetr_addresses(forward, back);
     i_division_by_zero(forward);
     j_qif_waits(forward, back);
     k_l_refusals(forward, back);
+    println!("marks: (a) to (l), and a fetr at K-1 and M");
 }
 
 #[test]

@@ -4,13 +4,16 @@
 
 mod proved;
 
-use crank_model::instruction::{word_i, word_r, FINISH, START};
+use crank_model::instruction::{word_i, FINISH, START};
 use crank_model::machine::{self, Record, CF, CL, FC, LC, NODE, NX, PR, W};
 use crank_model::state::{Machine, Turn, Way, WAYS};
 
 const R1: usize = 4;
+const R2: usize = 5;
 const QIF: u32 = word(24);
 const FIQ: u32 = word(25);
+/// fetr r1,r2; r2 is M until it is mended.
+const FETR: u32 = word(17) | ((R2 as u32) << 16);
 /// A word that gives no cause for refusal.
 const XORI: u32 = 0x0250_0001;
 
@@ -62,8 +65,9 @@ fn ladder((way, turn): Turning, mut machine: Machine, steps: &[Step], seen: &mut
     }
 }
 
-/// Five code words and one data word: start, start, `word`, start, finish.
-/// M is 0, pc and coin are out of range, links are missing, qifw is 9.
+/// Five code words and one data word: start, start, `word`, start, finish; a
+/// word behind them is lent, too. M is 0, pc and coin are out of range, links
+/// are missing, qifw is 9, r2 is the M that it will have.
 fn broken(word: u32) -> Machine {
     let mut record = Record {
         qifv: 2,
@@ -75,9 +79,10 @@ fn broken(word: u32) -> Machine {
     };
     record.regs[0] = 7;
     record.regs[R1] = 2;
+    record.regs[R2] = 6;
     Machine {
         record,
-        mem: vec![START, START, word, START, FINISH, 77],
+        mem: vec![START, START, word, START, FINISH, 77, 99],
         table: vec![0; 3 * NODE],
     }
 }
@@ -106,9 +111,25 @@ fn mend_start_behind(m: &mut Machine) {
     m.mem[3] = XORI;
 }
 
-fn mend_address(m: &mut Machine) {
+/// An ld in place of one whose address is not in the data.
+fn mend_ld(m: &mut Machine) {
     m.mem[2] = word_i(1, R1, 5);
 }
+
+/// From M to K-1, which is good for a fetr.
+fn mend_fetr(m: &mut Machine) {
+    m.record.regs[R2] = 4;
+}
+
+/// Words that are refused by 15 and nothing before it, and how each is mended:
+/// ld at K-1 and M, ldr with M and with pc, fetr at M.
+const ACCESSES: [(u32, Mend); 5] = [
+    (0x0140_0004, mend_ld),
+    (0x0140_0006, mend_ld),
+    (0x1045_0000, mend_ld),
+    (0x1040_0000, mend_ld),
+    (FETR, mend_fetr),
+];
 
 /// A qif from node 1 to 2 without wait, then to its end and to node 3.
 fn mend_links(m: &mut Machine) {
@@ -131,79 +152,97 @@ fn last_wait(m: &mut Machine) {
     m.record.qifw = 1;
 }
 
-fn forward_ladders(turn: Turn, seen: &mut Seen) {
-    let mut climb = |machine: Machine, steps: &[Step]| {
-        ladder((Way::Forward, turn), machine, steps, seen);
-    };
+/// A ladder over `word`, from its sizes and pc on.
+fn climb_to(turning: Turning, word: u32, steps: &[Step], seen: &mut Seen) {
     let to_word: [Step; 2] = [(10, mend_size), (11, mend_pc)];
+    let steps = [&to_word[..], steps].concat();
+    ladder(turning, broken(word), &steps, seen);
+}
+
+fn forward_ladders(turn: Turn, seen: &mut Seen) {
+    let mut climb = |word, steps: &[Step]| climb_to((Way::Forward, turn), word, steps, seen);
     let waits: [Step; 4] = [
         (16, mend_coin),
         (17, mend_links),
         (14, last_wait),
         (18, mend_start_behind),
     ];
-    climb(broken(QIF), &[&to_word[..], &waits].concat());
+    climb(QIF, &waits);
     let fiq: [Step; 4] = [
         (14, mend_waiting),
         (16, mend_coin),
         (17, mend_links),
         (18, mend_start_behind),
     ];
-    climb(broken(FIQ), &[&to_word[..], &fiq].concat());
-    let ld: [Step; 3] = [
+    climb(FIQ, &fiq);
+    // Finish and no instruction come before the wait.
+    for (word, refusal) in [(FINISH, 12), (0, 13)] {
+        let other: [Step; 3] = [
+            (refusal, mend_word),
+            (14, mend_waiting),
+            (18, mend_start_behind),
+        ];
+        climb(word, &other);
+    }
+}
+
+/// Words that name an address; and all that comes before the 15 of a fetr, one
+/// by one.
+fn forward_accesses(turn: Turn, seen: &mut Seen) {
+    let mut climb = |word, steps: &[Step]| climb_to((Way::Forward, turn), word, steps, seen);
+    for (bad, mend_access) in ACCESSES {
+        let access: [Step; 3] = [
+            (14, mend_waiting),
+            (15, mend_access),
+            (18, mend_start_behind),
+        ];
+        climb(bad, &access);
+    }
+    let fetr: [Step; 5] = [
+        (12, |m| m.mem[2] = FETR | 1),
+        (13, |m| m.mem[2] = FETR),
         (14, mend_waiting),
-        (15, mend_address),
+        (15, mend_fetr),
         (18, mend_start_behind),
     ];
-    for bad in [word_i(1, R1, 4), word_i(1, R1, 6), word_r(16, R1, 0)] {
-        climb(broken(bad), &[&to_word[..], &ld].concat());
-    }
-    // Finish and no instruction come before the wait.
-    let other: [Step; 2] = [(14, mend_waiting), (18, mend_start_behind)];
-    let finish: [Step; 1] = [(12, mend_word)];
-    climb(broken(FINISH), &[&to_word[..], &finish, &other].concat());
-    let none: [Step; 1] = [(13, mend_word)];
-    climb(broken(0), &[&to_word[..], &none, &other].concat());
+    climb(FINISH, &fetr);
 }
 
 /// Back turns that wait: the start at pc and the word before don't matter.
 fn back_waiting_ladders(turn: Turn, seen: &mut Seen) {
-    let mut climb = |machine: Machine, steps: &[Step]| {
-        ladder((Way::Back, turn), machine, steps, seen);
-    };
-    let to_word: [Step; 2] = [(10, mend_size), (11, mend_pc)];
+    let mut climb = |word, steps: &[Step]| climb_to((Way::Back, turn), word, steps, seen);
     let waits: [Step; 3] = [(16, mend_coin), (17, mend_links), (14, mend_count)];
-    climb(broken(QIF), &[&to_word[..], &waits].concat());
-    // A finish is no reason of its own here. Without the wait the turn steps
-    // back over the start at 1.
-    let other: [Step; 3] = [
+    climb(QIF, &waits);
+    // A finish is no reason of its own here, and neither is a fetr at M. Without
+    // the wait the turn steps back over the start at 1.
+    let other: [Step; 4] = [
         (13, |m| m.mem[2] = FINISH),
+        (14, |m| m.mem[2] = FETR),
         (14, mend_word),
         (14, mend_waiting),
     ];
-    climb(broken(0), &[&to_word[..], &other].concat());
+    climb(0, &other);
 }
 
-/// Back turns with qifw 0, from pc 3 that holds start; br 9 shrinks it too
-/// far until it is mended.
-fn back_ladders(turn: Turn, seen: &mut Seen) {
-    fn start(word: u32) -> Machine {
-        let mut machine = broken(word);
-        machine.record.qifw = 0;
-        machine.record.regs[1] = 9;
-        machine.record.regs[0] = 3;
-        machine
-    }
-    let mut climb = |machine: Machine, steps: &[Step]| {
-        ladder((Way::Back, turn), machine, steps, seen);
-    };
+/// Back turns with qifw 0, from pc 3 that holds start; br 9 shrinks it too far
+/// until it is mended.
+fn climb_back(turn: Turn, word: u32, steps: &[Step], seen: &mut Seen) {
+    let mut machine = broken(word);
+    machine.record.qifw = 0;
+    machine.record.regs[1] = 9;
+    machine.record.regs[0] = 3;
     let to_word: [Step; 3] = [
         (10, mend_size),
         (12, mend_start_behind),
         (11, |m| m.record.regs[1] = 0),
     ];
-    let qif: [Step; 2] = [(16, mend_coin), (17, mend_links)];
-    climb(start(QIF), &[&to_word[..], &qif].concat());
+    let steps = [&to_word[..], steps].concat();
+    ladder((Way::Back, turn), machine, &steps, seen);
+}
+
+fn back_ladders(turn: Turn, seen: &mut Seen) {
+    let mut climb = |word, steps: &[Step]| climb_back(turn, word, steps, seen);
+    climb(QIF, &[(16, mend_coin), (17, mend_links)]);
     let fiq: [Step; 2] = [
         (16, mend_coin),
         (17, |m| {
@@ -211,20 +250,24 @@ fn back_ladders(turn: Turn, seen: &mut Seen) {
             m.record.qifv = 3;
         }),
     ];
-    climb(start(FIQ), &[&to_word[..], &fiq].concat());
-    let ld: [Step; 1] = [(15, mend_address)];
-    for bad in [word_i(1, R1, 4), word_i(1, R1, 6), word_r(17, R1, 0)] {
-        climb(start(bad), &[&to_word[..], &ld].concat());
+    climb(FIQ, &fiq);
+    for (bad, mend_access) in ACCESSES {
+        climb(bad, &[(15, mend_access)]);
     }
-    let finish: [Step; 1] = [(18, mend_word)];
-    climb(start(FINISH), &[&to_word[..], &finish].concat());
-    let none: [Step; 1] = [(13, mend_word)];
-    climb(start(0), &[&to_word[..], &none].concat());
+    let fetr: [Step; 3] = [
+        (18, |m| m.mem[2] = FETR | 1),
+        (13, |m| m.mem[2] = FETR),
+        (15, mend_fetr),
+    ];
+    climb(FINISH, &fetr);
+    climb(FINISH, &[(18, mend_word)]);
+    climb(0, &[(13, mend_word)]);
 }
 
 fn all(forward: Turn, back: Turn) {
     let mut seen = [[0; 22]; 2];
     forward_ladders(forward, &mut seen);
+    forward_accesses(forward, &mut seen);
     back_waiting_ladders(back, &mut seen);
     back_ladders(back, &mut seen);
     for way in WAYS {
