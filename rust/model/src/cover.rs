@@ -1,13 +1,13 @@
 //! Counts of what a test reached, and of what it has missed.
 
-use crate::instruction::{decode, opcode, para, BR, FINISH, KINDS, PC};
-use crate::machine::Record;
+use crate::instruction::{decode, opcode, para, Access, BR, FINISH, KINDS, PC, START};
+use crate::machine::{step, Record};
 use crate::nodes::depth;
 use crate::state::{Machine, Way, WAYS};
 
-/// Refusals told apart: with qifw 0 and waiting, and the two kinds of 14,
-/// of which the first is also counted at a finish.
-const REFUSALS: [&str; 19] = [
+/// Refusals told apart: with qifw 0 and waiting; the two kinds of 14, of which
+/// the first is also counted at a finish; and 15 by the access and its address.
+const REFUSALS: [&str; 23] = [
     "10",
     "11",
     "11 waiting",
@@ -18,7 +18,11 @@ const REFUSALS: [&str; 19] = [
     "14 word",
     "14 finish",
     "14 count",
-    "15",
+    "15 copy at M",
+    "15 copy above M",
+    "15 exchange at M",
+    "15 exchange above M",
+    "15 exchange in code",
     "16",
     "16 waiting",
     "17",
@@ -50,11 +54,35 @@ const EVENTS: [&str; 9] = [
     "high word changed",
 ];
 
+/// What accepted copies read, and how they come to the address.
+const COPIES: [&str; 11] = [
+    "copy of data",
+    "copy of code",
+    "copy of code, no data",
+    "copy at 0",
+    "copy at K-1",
+    "copy at M-1",
+    "copy of start or finish",
+    "copy of no instruction",
+    "copy of the word behind",
+    "copy by pc",
+    "copy by pc, br not 0",
+];
+
 #[derive(Clone, Debug, Default)]
 struct Counts {
     refused: [u64; REFUSALS.len()],
     accepted: [u64; KINDS.len()],
     events: [u64; EVENTS.len()],
+    copies: [u64; COPIES.len()],
+}
+
+impl Counts {
+    /// The counts that are to be above 0 in every direction, by their names.
+    fn met(&self) -> impl Iterator<Item = (&&str, u64)> {
+        let events = EVENTS.iter().zip(self.events);
+        events.chain(COPIES.iter().zip(self.copies))
+    }
 }
 
 #[derive(Clone, Debug, Default)]
@@ -63,30 +91,65 @@ pub struct Cover {
     named: Vec<(String, u64)>,
 }
 
-/// The word that a turn executes or undoes, if pc leads to one.
-pub fn word_at(r: &Record, mem: &[u32], way: Way) -> Option<u32> {
-    let pc = r.regs[PC];
-    let br = r.regs[BR];
-    let at = if way == Way::Forward || r.qifw > 0 {
-        pc
+/// The turn's own pc.
+fn own_pc(r: &Record, way: Way) -> u32 {
+    if way == Way::Forward || r.qifw > 0 {
+        r.regs[PC]
     } else {
-        pc.wrapping_sub(if br == 0 { 1 } else { br })
-    };
-    mem.get(at as usize).copied()
+        r.regs[PC].wrapping_sub(step(r.regs[BR]))
+    }
 }
 
-fn refusal_index(refusal: u32, waits: bool, word: Option<u32>) -> usize {
+/// The word that a turn executes or undoes, if pc leads to one.
+pub fn word_at(r: &Record, mem: &[u32], way: Way) -> Option<u32> {
+    mem.get(own_pc(r, way) as usize).copied()
+}
+
+/// The access of that word to memory, if it has one.
+pub fn access_at(r: &Record, mem: &[u32], way: Way) -> Option<Access> {
+    let mut regs = r.regs;
+    regs[PC] = own_pc(r, way);
+    word_at(r, mem, way).and_then(decode)?.access(&regs)
+}
+
+fn refusal_index(refusal: u32, r: &Record, word: Option<u32>, access: Option<Access>) -> usize {
     let is_qif = word.and_then(decode).is_some_and(|ins| ins.is_qif());
-    let waiting = usize::from(waits);
+    let waiting = usize::from(r.qifw > 0);
     match refusal {
         11..=13 => 2 * (refusal as usize - 11) + 1 + waiting,
         14 if is_qif => 9,
         14 => 7 + usize::from(word == Some(FINISH)),
-        15 => 10,
-        16..=18 => 2 * (refusal as usize - 16) + 11 + waiting,
-        21 => 17 + waiting,
+        15 => match access {
+            Some(Access::Exchange(address)) if address < r.k => 14,
+            Some(Access::Exchange(address)) => 12 + usize::from(address > r.m),
+            other => 10 + usize::from(other.is_some_and(|copy| copy.address() > r.m)),
+        },
+        16..=18 => 2 * (refusal as usize - 16) + 15 + waiting,
+        21 => 21 + waiting,
         _ => 0,
     }
+}
+
+/// Which of COPIES an accepted turn is, where it copies from this address; `old`
+/// is the record before it.
+fn copy_kinds(way: Way, old: &Record, mem: &[u32], address: u32) -> [bool; COPIES.len()] {
+    let own = own_pc(old, way);
+    let in_code = address < old.k;
+    let word = mem[address as usize];
+    let by_pc = word_at(old, mem, way).is_some_and(|word| (word >> 16) & 15 == PC as u32);
+    [
+        !in_code,
+        in_code,
+        in_code && old.k == old.m,
+        address == 0,
+        address == old.k - 1,
+        address == old.m - 1,
+        in_code && (word == START || word == FINISH),
+        in_code && decode(word).is_none(),
+        in_code && address == own.wrapping_add(1),
+        by_pc,
+        by_pc && old.regs[BR] != 0,
+    ]
 }
 
 fn kind_index(word: u32) -> Option<usize> {
@@ -101,10 +164,11 @@ impl Cover {
     /// and table are the same before and after.
     pub fn turn(&mut self, way: Way, old: &Record, refusal: u32, machine: &Machine) {
         let word = word_at(old, &machine.mem, way);
+        let access = access_at(old, &machine.mem, way);
         let after = &machine.record;
         let counts = &mut self.turns[way as usize];
         if refusal != 0 {
-            counts.refused[refusal_index(refusal, old.qifw > 0, word)] += 1;
+            counts.refused[refusal_index(refusal, old, word, access)] += 1;
             return;
         }
         let Some(kind) = word.and_then(kind_index) else {
@@ -124,6 +188,12 @@ impl Cover {
         if KINDS[kind].0 == 24 {
             let inner = depth(&machine.table, after.n, after.qifv);
             counts.events[3] += u64::from(inner.is_some_and(|d| d > 1));
+        }
+        if let Some(Access::Copy(address)) = access {
+            let kinds = copy_kinds(way, old, &machine.mem, address);
+            for (times, met) in counts.copies.iter_mut().zip(kinds) {
+                *times += u64::from(met);
+            }
         }
     }
 
@@ -149,8 +219,17 @@ impl Cover {
         assert!(missed.is_empty(), "never reached: {missed:?}");
     }
 
-    /// Fails if some refusal, instruction or event was not reached in one of
-    /// the directions; finish is never accepted.
+    /// Fails if some kind of copy was not reached in one of the directions.
+    pub fn demand_copies(&self) {
+        for way in WAYS {
+            let copies = COPIES.iter().zip(self.turns[way as usize].copies);
+            let missed: Vec<_> = copies.filter(|(_, times)| *times == 0).collect();
+            assert!(missed.is_empty(), "{way:?} never reached: {missed:?}");
+        }
+    }
+
+    /// Fails if some refusal, instruction, event or copy was not reached in one
+    /// of the directions; finish is never accepted.
     pub fn demand_turns(&self) {
         let mut missed = Vec::new();
         for way in WAYS {
@@ -165,7 +244,7 @@ impl Cover {
                     missed.push(format!("{way:?} opcode and para {kind:?}: {times}"));
                 }
             }
-            for (name, times) in EVENTS.iter().zip(counts.events) {
+            for (name, times) in counts.met() {
                 if times == 0 {
                     missed.push(format!("{way:?} {name}"));
                 }
@@ -187,7 +266,7 @@ impl Cover {
             for (name, times) in REFUSALS.iter().zip(counts.refused) {
                 line += &format!(", {name}: {times}");
             }
-            for (name, times) in EVENTS.iter().zip(counts.events) {
+            for (name, times) in counts.met() {
                 line += &format!(", {name} {times}");
             }
             line += ";";

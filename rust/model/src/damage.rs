@@ -1,12 +1,12 @@
 //! Damage to single fields of a machine.
 
-use crate::instruction::Instruction::{Fiq, Qif};
+use crate::instruction::Instruction::{Fetr, Fiq, Ldr, Qif};
 use crate::instruction::{decode, BR, FINISH, PC, START};
 use crate::machine::{MAX_M, MAX_N, NODE};
 use crate::positions::near_end;
 use crate::rng::Rng;
 use crate::state::Machine;
-use crate::words::EXTREMES;
+use crate::words::{address, EXTREMES};
 use std::iter;
 
 fn damage_size(rng: &mut Rng, machine: &mut Machine) {
@@ -79,6 +79,20 @@ fn damage_register(rng: &mut Rng, machine: &mut Machine) {
     machine.record.regs[reg] = rng.pick(&[noise, edge, extreme, 2]);
 }
 
+/// Sets the register with the address of some ldr or fetr to another one.
+pub fn damage_address(rng: &mut Rng, machine: &mut Machine) {
+    let len = machine.mem.len();
+    let words = machine.mem.iter().cycle().skip(rng.index(len)).take(len);
+    let mut named = words.filter_map(|word| match decode(*word) {
+        Some(Ldr { b, .. } | Fetr { b, .. }) => Some(usize::from(b)),
+        _ => None,
+    });
+    if let Some(reg) = named.find(|reg| *reg != PC) {
+        let (k, m) = (machine.record.k, machine.record.m);
+        machine.record.regs[reg] = address(rng, k, m);
+    }
+}
+
 /// Sets the coin of the qif or fiq at pc to another value.
 fn damage_coin(rng: &mut Rng, machine: &mut Machine) {
     let pc = machine.record.regs[PC];
@@ -111,13 +125,14 @@ fn damage_position(rng: &mut Rng, machine: &mut Machine) {
 
 type Damage = fn(&mut Rng, &mut Machine);
 
-/// The kinds of damage, by name, and how many of eleven are of each.
-pub const DAMAGES: [(&str, Damage, usize); 8] = [
+/// The kinds of damage, by name, and how many of twelve are of each.
+pub const DAMAGES: [(&str, Damage, usize); 9] = [
     ("damaged size", damage_size, 1),
     ("damaged link", damage_link, 2),
     ("damaged code", damage_code, 1),
     ("damaged near pc", damage_near_pc, 2),
     ("damaged register", damage_register, 1),
+    ("damaged address", damage_address, 1),
     ("damaged coin", damage_coin, 1),
     ("damaged wait", damage_wait, 2),
     ("damaged position", damage_position, 1),

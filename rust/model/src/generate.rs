@@ -1,15 +1,15 @@
 //! Random states: valid ones, noise, damaged ones, and programs in mid-run.
 
-use crate::damage::damage;
+use crate::damage::{damage, damage_address};
 use crate::instruction::Instruction::*;
 use crate::instruction::{decode, BR, FINISH, KINDS, PC, START};
-use crate::machine::{Record, CF, CL, FC, LC, NODE, PR, W};
+use crate::machine::{step, Record, CF, CL, FC, LC, NODE, PR, W};
 use crate::nodes::random_table;
 use crate::positions;
 use crate::rng::Rng;
 use crate::state::{Machine, Way};
 use crate::structured;
-use crate::words::{offset, word_of, EXTREMES};
+use crate::words::{address, constant, offset, word_of, EXTREMES};
 
 fn register_value(rng: &mut Rng, k: u32, m: u32) -> u32 {
     match rng.below(8) {
@@ -126,6 +126,23 @@ fn aim_fiq(rng: &mut Rng, machine: &mut Machine, coin: usize, way: Way) {
     };
 }
 
+/// Sets the register that an ldr or fetr has its address in, unless it is pc.
+fn aim_access(machine: &mut Machine, reg: usize, address: u32) {
+    if reg != PC {
+        machine.record.regs[reg] = address;
+    }
+}
+
+/// Sets the address of the fetr at `at`, in many cases to that of a constant in
+/// the code.
+fn aim_copy(rng: &mut Rng, machine: &mut Machine, at: u32, reg: usize) {
+    let address = address(rng, machine.record.k, machine.record.m);
+    aim_access(machine, reg, address);
+    if address < machine.record.k && address != at && rng.chance(1, 2) {
+        machine.mem[address as usize] = constant(rng);
+    }
+}
+
 /// Sets registers and node so that a turn over the word at `at` is likely to
 /// be accepted; the table must be paired.
 pub fn aim(rng: &mut Rng, machine: &mut Machine, way: Way) {
@@ -135,9 +152,11 @@ pub fn aim(rng: &mut Rng, machine: &mut Machine, way: Way) {
     machine.record.qifw = 0;
     machine.record.regs[BR] = if rng.chance(1, 3) { offset(rng) } else { 0 };
     match decode(word) {
-        Some(Ldr { b, .. } | Fetr { b, .. }) if usize::from(b) != PC && m > k => {
-            machine.record.regs[usize::from(b)] = rng.between(k, m - 1);
+        Some(Ldr { b, .. }) if m > k && rng.chance(3, 4) => {
+            aim_access(machine, b.into(), rng.between(k, m - 1));
         }
+        Some(Ldr { b, .. }) => aim_access(machine, b.into(), address(rng, k, m)),
+        Some(Fetr { b, .. }) => aim_copy(rng, machine, at, b.into()),
         Some(Qif { a }) if rng.chance(1, 2) => aim_wait(rng, machine, a.into()),
         Some(Qif { a }) if way == Way::Forward => aim_qif(rng, machine, a.into()),
         Some(Qif { a }) => aim_child(rng, machine, a.into()),
@@ -146,11 +165,10 @@ pub fn aim(rng: &mut Rng, machine: &mut Machine, way: Way) {
         _ => {}
     }
     let waits = machine.record.qifw > 0;
-    let br = machine.record.regs[BR];
     machine.record.regs[PC] = if way == Way::Forward || waits {
         at
     } else {
-        at.wrapping_add(if br == 0 { 1 } else { br })
+        at.wrapping_add(step(machine.record.regs[BR]))
     };
 }
 
@@ -216,8 +234,10 @@ pub fn for_run(rng: &mut Rng, way: Way) -> Machine {
     let turns = if kind < 4 { 400 } else { 2_000 };
     let mut machine = structured::running(rng, turns);
     place(rng, &mut machine);
-    if kind < 4 {
-        damage(rng, &mut machine);
+    match kind {
+        2 | 3 => damage(rng, &mut machine),
+        4 => damage_address(rng, &mut machine),
+        _ => {}
     }
     machine
 }

@@ -1,11 +1,12 @@
-//! Random programs that run long: arithmetic, data words, jumps, nested qifs
-//! and loops, with the table that belongs to them.
+//! Random programs that run long: arithmetic, data words, constants beside the
+//! code, jumps, nested qifs and loops, with the table that belongs to them.
 
 use crate::instruction::{word_i, word_o, word_r, BR, FINISH, PC, START};
 use crate::machine::{forward, Record, NODE, PR};
 use crate::nodes::Nodes;
 use crate::rng::Rng;
 use crate::state::Machine;
+use crate::words::constant;
 
 /// Loop counter, loop end and the flag that the end is reached.
 const COUNT: usize = 4;
@@ -13,27 +14,30 @@ const END: usize = 5;
 const DONE: usize = 6;
 /// Registers with coins; nothing changes them.
 const COINS: [usize; 3] = [7, 8, 9];
-/// A data address; nothing changes it.
+/// A data address, if there is data, and a code address; nothing changes them.
 const ADDRESS: usize = 10;
+const CODE: usize = 14;
+/// Holds 0 but where it leads to a constant.
+const POINTER: usize = 13;
 /// Holds 1, an offset for swbr.
 const ONE: usize = 15;
 /// Registers for arithmetic.
-const FREE: [usize; 6] = [2, 3, 11, 12, 13, 14];
+const FREE: [usize; 4] = [2, 3, 11, 12];
 
 enum Part {
     Words(Vec<u32>),
     Qif { coin: usize, body: Vec<Part> },
 }
 
-/// The data words: they follow the code, whose length is known only at the
-/// end, so addresses start from a stand-in until then.
+/// The data words, in some programs none: they follow the code, whose length is
+/// known only at the end, so addresses start from a stand-in until then.
 struct Data {
     first: u32,
     count: u32,
 }
 
 fn read_only(rng: &mut Rng) -> usize {
-    rng.pick(&[PC, COUNT, END, 7, 8, 9, ADDRESS, ONE])
+    rng.pick(&[PC, COUNT, END, 7, 8, 9, ADDRESS, CODE, ONE])
 }
 
 fn free_pair(rng: &mut Rng) -> (usize, usize) {
@@ -48,10 +52,11 @@ fn plain_word(rng: &mut Rng, data: &Data) -> u32 {
     let from = if rng.chance(1, 2) { b } else { read_only(rng) };
     let third = read_only(rng);
     let imm = rng.word();
-    match rng.below(16) {
+    match rng.below(17) {
+        0..=2 if data.count == 0 => word_r(17, a, CODE),
         0 | 1 => word_i(1, a, data.first + rng.below(data.count)),
         2 => word_r(16, a, ADDRESS),
-        3 => word_r(17, a, ADDRESS),
+        3 | 16 => word_r(17, a, rng.pick(&[ADDRESS, CODE, PC])),
         4 => word_i(2, a, imm),
         5 => word_i(3, a, imm),
         6 => word_i(4, a, imm),
@@ -67,25 +72,58 @@ fn plain_word(rng: &mut Rng, data: &Data) -> u32 {
     }
 }
 
+/// A jump that lands on a word which leaves br, and then on one which clears it.
+fn slow_jump(rng: &mut Rng, data: &Data) -> Vec<u32> {
+    let words = [plain_word(rng, data), word_r(17, rng.pick(&FREE), PC)];
+    let skipped = plain_word(rng, data);
+    let branch = word_i(5, 0, 2);
+    vec![branch, skipped, rng.pick(&words), skipped, branch]
+}
+
 /// A jump that lands on a word which clears br again.
 fn jump_words(rng: &mut Rng, data: &Data) -> Vec<u32> {
     let coin = rng.pick(&COINS);
     let skipped = plain_word(rng, data);
-    match rng.below(4) {
+    match rng.below(5) {
         0 => vec![word_r(23, ONE, 0); 2],
         1 => vec![word_i(5, 0, 2), skipped, word_i(5, 0, 2)],
-        2 => vec![word_i(6, coin, 2), skipped, word_i(6, coin, 2)],
+        2 => slow_jump(rng, data),
+        3 => vec![word_i(6, coin, 2), skipped, word_i(6, coin, 2)],
         _ => vec![word_i(7, coin, 2), skipped, word_i(7, coin, 2)],
     }
+}
+
+/// Reads a constant that is jumped over, or one of the words around it, by its
+/// distance from the first of these words.
+fn constant_words(rng: &mut Rng, data: &Data) -> Vec<u32> {
+    let words = [constant(rng), plain_word(rng, data)];
+    let any = rng.below(8);
+    let distance = rng.pick(&[6, any]);
+    // The last word that names pc stands 4 behind the first.
+    let clear = match distance.checked_sub(4) {
+        Some(rest) => word_i(4, POINTER, rest),
+        None => word_i(3, POINTER, 4 - distance),
+    };
+    vec![
+        word_r(20, POINTER, PC),
+        word_i(3, POINTER, distance),
+        word_r(17, rng.pick(&FREE), POINTER),
+        clear,
+        word_r(21, POINTER, PC),
+        word_i(5, 0, 2),
+        rng.pick(&words),
+        word_i(5, 0, 2),
+    ]
 }
 
 fn parts(rng: &mut Rng, data: &Data, depth: u32, qifs: u32) -> Vec<Part> {
     let mut list = Vec::new();
     for _ in 0..rng.below(5) {
-        list.push(match rng.below(4) {
-            0 => Part::Words(jump_words(rng, data)),
-            _ => Part::Words(vec![plain_word(rng, data)]),
-        });
+        list.push(Part::Words(match rng.below(8) {
+            0 | 1 => jump_words(rng, data),
+            2 => constant_words(rng, data),
+            _ => vec![plain_word(rng, data)],
+        }));
     }
     for _ in 0..rng.between(u32::from(depth == 0), qifs) {
         let at = rng.index(list.len() + 1);
@@ -143,9 +181,10 @@ fn loop_code(body: &[u32]) -> Vec<u32> {
 
 /// A program at its start: `rounds` times the body, or once without a loop.
 pub fn program(rng: &mut Rng, rounds: Option<u32>) -> Machine {
+    let some = rng.between(1, 12);
     let data = Data {
         first: 0x4000,
-        count: rng.between(1, 12),
+        count: if rng.chance(1, 8) { 0 } else { some },
     };
     let body = parts(rng, &data, 0, 3);
     let mut nodes = Nodes::default();
@@ -171,6 +210,26 @@ fn close_cycle(nodes: &mut Nodes, first: u32, last: u32) {
     nodes.next(before, first);
 }
 
+/// The registers at the start of a program with `k` code words.
+fn first_registers(rng: &mut Rng, k: u32, data: &Data, rounds: u32) -> [u32; 16] {
+    let mut regs: [u32; 16] = std::array::from_fn(|_| rng.word());
+    for reg in [PC, BR, COUNT, DONE, POINTER] {
+        regs[reg] = 0;
+    }
+    regs[END] = rounds;
+    for coin in COINS {
+        regs[coin] = rng.below(2);
+    }
+    let (in_data, in_code) = (rng.below(data.count), rng.below(k));
+    regs[CODE] = rng.pick(&[0, k - 1, in_code]);
+    regs[ADDRESS] = match data.count {
+        0 => regs[CODE],
+        count => k + rng.pick(&[0, count - 1, in_data]),
+    };
+    regs[ONE] = 1;
+    regs
+}
+
 /// Puts code, data, table and first record together; the data addresses in
 /// the code move down to follow it.
 fn assemble(
@@ -191,16 +250,7 @@ fn assemble(
         .collect();
     mem.extend(rng.words(data.count as usize));
     let (table, number) = nodes.shuffled(rng);
-    let mut regs: [u32; 16] = std::array::from_fn(|_| rng.word());
-    for reg in [PC, BR, COUNT, DONE] {
-        regs[reg] = 0;
-    }
-    regs[END] = rounds;
-    for coin in COINS {
-        regs[coin] = rng.below(2);
-    }
-    regs[ADDRESS] = k + rng.below(data.count);
-    regs[ONE] = 1;
+    let regs = first_registers(rng, k, data, rounds);
     let record = Record {
         regs,
         qifv: number[first as usize],

@@ -1,6 +1,6 @@
 //! Random words: valid instructions of each kind, and values at the edges.
 
-use crate::instruction::{word_i, word_o, word_r, PC};
+use crate::instruction::{word_i, word_o, word_r, FINISH, PC, START};
 use crate::rng::Rng;
 
 /// Words at the edges of the range and around the sizes.
@@ -57,6 +57,7 @@ pub fn word_of(rng: &mut Rng, kind: (u32, u32), k: u32, m: u32) -> u32 {
         5 => word_i(5, 0, offset(rng)),
         6 | 7 => word_i(opcode, a, offset(rng)),
         2..=4 => word_i(opcode, a, any),
+        17 if rng.chance(1, 4) => word_r(17, a, PC),
         18 => word_r(18, a, other(rng, a)),
         16..=21 => word_r(opcode, a, source(rng, &[a])),
         22..=25 => word_r(opcode, a, 0),
@@ -68,6 +69,26 @@ pub fn word_of(rng: &mut Rng, kind: (u32, u32), k: u32, m: u32) -> u32 {
             let b = source(rng, &[a]);
             word_o(35, para, a, b, source(rng, &[a, b]))
         }
+    }
+}
+
+/// A word beside the instructions: start, finish, or any.
+pub fn constant(rng: &mut Rng) -> u32 {
+    let any = rng.word();
+    rng.pick(&[START, FINISH, 0, any])
+}
+
+/// An address in code or data, at an edge of them, or outside; the sizes may be
+/// any words.
+pub fn address(rng: &mut Rng, k: u32, m: u32) -> u32 {
+    let data = k.wrapping_add(rng.below(m.wrapping_sub(k)));
+    let any = rng.word();
+    match rng.below(8) {
+        0..=2 => rng.below(k),
+        3 => data,
+        4 | 5 => rng.pick(&[0, k.wrapping_sub(1), k, m.wrapping_sub(1)]),
+        6 => m,
+        _ => rng.pick(&[m.wrapping_add(1), u32::MAX, any]),
     }
 }
 

@@ -11,9 +11,9 @@ mod runs;
 mod waits;
 
 use crank_model::compare::{same_preview, turn_as_shown};
-use crank_model::cover::{word_at, Cover};
-use crank_model::instruction::decode;
+use crank_model::cover::{access_at, word_at, Cover};
 use crank_model::instruction::Instruction::{self, *};
+use crank_model::instruction::{decode, Access};
 use crank_model::machine::Record;
 use crank_model::preview::{Preview, PreviewCall};
 use crank_model::rng::Rng;
@@ -95,7 +95,7 @@ fn level(rng: &mut Rng, way: Way, machine: &mut Machine) {
 }
 
 /// The kinds of previews, in each direction.
-const CASES: [&str; 10] = [
+const CASES: [&str; 12] = [
     "ld changes a word",
     "ld changes none",
     "ld refused",
@@ -104,14 +104,22 @@ const CASES: [&str; 10] = [
     "ldr refused",
     "fetr changes none",
     "fetr refused",
+    "fetr in code changes none",
+    "fetr in code refused",
     "other word changes none",
     "other word refused",
 ];
+
+fn copies_code(way: Way, machine: &Machine) -> bool {
+    let access = access_at(&machine.record, &machine.mem, way);
+    matches!(access, Some(Access::Copy(address)) if address < machine.record.k)
+}
 
 fn case(way: Way, machine: &Machine, shown: &Preview) -> String {
     let kind = match instruction(way, machine) {
         Some(Ld { .. }) => "ld",
         Some(Ldr { .. }) => "ldr",
+        Some(Fetr { .. }) if copies_code(way, machine) => "fetr in code",
         Some(Fetr { .. }) => "fetr",
         _ => "other word",
     };

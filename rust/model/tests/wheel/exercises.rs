@@ -51,6 +51,7 @@ fn to_the_finish_and_back() {
         "refused turn",
         "accepted after a refused turn",
     ]);
+    cover.demand_copies();
 }
 
 /// The samples in calls of `size` each on one bench, each given the last
