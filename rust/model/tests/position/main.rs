@@ -12,29 +12,10 @@ mod samples;
 mod waits;
 
 use crank_model::instruction::{word_i, BR, PC};
-use crank_model::machine::{self, Record};
-use crank_model::state::{BatchCall, Machine, Turn};
+use crank_model::machine::Record;
+use crank_model::state::Machine;
 use crank_model::wheel::{self, SampleCall};
-
-/// Single turns forward and back; the last as the previews show them.
-const TURNS: [(&str, [Turn; 2]); 4] = [
-    ("model", [machine::forward, machine::back]),
-    ("library", [proved::forward, proved::back]),
-    ("bench", [proved::bench::forward, proved::bench::back]),
-    (
-        "previews",
-        [proved::forward_as_shown, proved::back_as_shown],
-    ),
-];
-
-const BATCHES: [(&str, [BatchCall; 2]); 3] = [
-    ("model", [machine::forward_batch, machine::back_batch]),
-    ("library", [proved::forward_batch, proved::back_batch]),
-    (
-        "bench",
-        [proved::bench::forward_batch, proved::bench::back_batch],
-    ),
-];
+use proved::{BATCHES, TURNS};
 
 const SAMPLES: [(&str, SampleCall); 3] = [
     ("model", wheel::samples),

@@ -2,9 +2,26 @@
 #![allow(dead_code)] // each test uses some of them
 
 use crank::calls;
-use crank_model::machine::{Batch, Record};
+use crank_model::machine::{self, Batch, Record};
 use crank_model::preview::Preview;
+use crank_model::state::{BatchCall, Turn};
 use crank_model::wheel::Wheeled;
+
+/// Single turns forward and back, by who makes them; the last as the previews
+/// show them.
+pub const TURNS: [(&str, [Turn; 2]); 4] = [
+    ("model", [machine::forward, machine::back]),
+    ("library", [forward, back]),
+    ("bench", [bench::forward, bench::back]),
+    ("previews", [forward_as_shown, back_as_shown]),
+];
+
+/// Batches, likewise.
+pub const BATCHES: [(&str, [BatchCall; 2]); 3] = [
+    ("model", [machine::forward_batch, machine::back_batch]),
+    ("library", [forward_batch, back_batch]),
+    ("bench", [bench::forward_batch, bench::back_batch]),
+];
 
 fn given(r: Record) -> crank::Record {
     crank::Record {
