@@ -10,6 +10,7 @@ use crank_model::machine::{Record, CF, FC, NODE};
 use crank_model::state::{Machine, Turn, WAYS};
 
 const R1: usize = 4;
+const R2: usize = 5;
 
 /// Code of one repeated word, with pc at the last code word or behind it.
 fn machine_of(sizes: [u32; 3], lent: [usize; 2], word: u32, pc: u32) -> Machine {
@@ -59,6 +60,12 @@ fn visit_words(sizes: [u32; 3], lent: [usize; 2], visit: &mut impl FnMut(Machine
         let last_data = word_i(1, R1, m.wrapping_sub(1));
         for word in [word_i(2, R1, 5), last_data] {
             visit(machine_of(sizes, lent, word, pc));
+        }
+        // A copy of the last word, and of one behind it.
+        for address in [m.wrapping_sub(1), m] {
+            let mut machine = machine_of(sizes, lent, word_r(17, R1, R2), pc);
+            machine.record.regs[R2] = address;
+            visit(machine);
         }
         // At both ends of the position, too.
         for position in WAYS.map(|way| way.last_position()) {

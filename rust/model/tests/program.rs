@@ -168,6 +168,40 @@ fn positions() {
     }
 }
 
+/// start; xori r2,5; fetr r1,r2; xori r2,5; finish; and the constant at 5, which
+/// is the last code word and no instruction. There is no data.
+#[test]
+fn constant_in_code() {
+    let Some(program) = program() else { return };
+    let mem = vec![
+        0x1A00_0000,
+        0x0250_0005,
+        0x1145_0000,
+        0x0250_0005,
+        0x1B00_0000,
+        0xFFFF_FFFE,
+    ];
+    let record = Record {
+        k: 6,
+        m: 6,
+        ..Record::default()
+    };
+    let mut machine = Machine {
+        record,
+        mem,
+        table: Vec::new(),
+    };
+    let done = "turns 4 refusal 12\n4 0 0 0 4294967294 0 0 0 0 0 0 0 0 0 0 0\nnode 0 wait 0\n";
+    let refused = "turns 2 refusal 15\n2 0 0 0 0 6 0 0 0 0 0 0 0 0 0 0\nnode 0 wait 0\n";
+    // At K-1, and then at M.
+    for (r2, text) in [(0, done), (3, refused)] {
+        machine.record.regs[5] = r2;
+        for kind in KINDS {
+            assert_eq!(compare(&program, &image_of(kind, &machine, &[])), text);
+        }
+    }
+}
+
 /// `pad` words, a loop of `rounds` with 4 turns each, and finish.
 fn counted_loop(rounds: u32, pad: usize) -> Machine {
     let mut mem = vec![START];

@@ -3,7 +3,10 @@
 
 use std::collections::HashMap;
 
-use crank_model::instruction::{decode, word_i, word_r, Instruction, FINISH, KINDS, START};
+use crank_model::cover::access_at;
+use crank_model::instruction::{
+    decode, word_i, word_r, Access, Instruction, FINISH, KINDS, PC, START,
+};
 use crank_model::machine::{Record, NODE};
 use crank_model::rng::{rounds, Rng};
 use crank_model::state::{Machine, Way, WAYS};
@@ -102,9 +105,10 @@ fn at_positions(states: &[Machine], positions: [i64; 3]) -> Vec<Machine> {
     states.iter().flat_map(of_state).collect()
 }
 
-/// Turns every state; gives the accepted ones.
-fn injective(way: Way, states: &[Machine]) -> usize {
+/// Turns every state; gives the accepted ones, and those that copy from code.
+fn injective(way: Way, states: &[Machine]) -> [usize; 2] {
     let mut reached: HashMap<(Record, u32), usize> = HashMap::new();
+    let mut copies = 0;
     for (i, start) in states.iter().enumerate() {
         let mut m = start.clone();
         let refusal = m.turn(way.model());
@@ -117,18 +121,27 @@ fn injective(way: Way, states: &[Machine]) -> usize {
         }
         assert_eq!(m.turn(way.reverse().model()), 0, "{way:?} {start:?}");
         assert_eq!(m, *start);
+        let access = access_at(&start.record, &start.mem, way);
+        copies += usize::from(matches!(access, Some(Access::Copy(0 | 1))));
     }
-    reached.len()
+    [reached.len(), copies]
+}
+
+/// A word of every kind, and fetr by each register that the states set.
+fn words(rng: &mut Rng) -> Vec<u32> {
+    let copies = [(R1, R2), (R2, R1), (R1, PC), (R2, PC)];
+    let copies = copies.map(|(a, b)| word_r(17, a, b));
+    let each = KINDS.into_iter().map(|kind| small_word(rng, kind));
+    each.chain(copies).collect()
 }
 
 #[test]
 fn no_two_states_lead_to_the_same() {
     let mut rng = Rng::new(51);
-    let mut accepted = [0usize; 2];
+    let mut accepted = [[0usize; 2]; 2];
     let mut machines = 0;
     for _ in 0..rounds(6) {
-        for kind in KINDS {
-            let word = small_word(&mut rng, kind);
+        for word in words(&mut rng) {
             let others = [
                 START,
                 FINISH,
@@ -142,11 +155,14 @@ fn no_two_states_lead_to_the_same() {
                 let all = at_positions(&all, rng.pick(&POSITIONS));
                 machines += 1;
                 for way in WAYS {
-                    accepted[way as usize] += injective(way, &all);
+                    let [all, copies] = injective(way, &all);
+                    accepted[0][way as usize] += all;
+                    accepted[1][way as usize] += copies;
                 }
             }
         }
     }
-    assert!(accepted.iter().all(|count| *count > 10_000));
-    println!("tiny: {machines} machines, accepted forward and back {accepted:?}");
+    let [all, copies] = accepted;
+    println!("tiny: {machines} machines, accepted forward and back {all:?}, copies {copies:?}");
+    assert!(accepted.as_flattened().iter().all(|count| *count > 10_000));
 }
