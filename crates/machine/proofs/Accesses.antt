@@ -1,129 +1,254 @@
--- Which addresses turns take by the kind of access, and what a turn at a fetr changes. Assumes nothing.
+-- What turns and previews do at an access. Assumes nothing.
 use mathlib.Core.Path.{_≡_, refl, sym, ap, _∙_, subst}
-use mathlib.Core.Bool.{Bool, true, false, not, true≢false}
-use mathlib.Core.Logic.{_≢_}
-use mathlib.Core.List.{List, _++_}
-use Prim.Native.Nat.{ℕ}
+use mathlib.Core.Bool.{Bool, true, false, true≢false, not, _&&_}
+use mathlib.Core.Logic.{_≢_, _↔_, inl, inr}
+use mathlib.Core.List.{List}
+use Prim.Native.Nat.{ℕ, _<_, _≤_}
 use native.Mathlib.Omega.{arith}
 use lib.Dec.{eqb}
-use lib.ListN.{getD, drop, take-append-drop}
+use lib.ListN.{getD}
+use lib.Seq.{getD-set-other}
 use lib.Bits.{bitXor}
-use borrow.Author.Tests.{eqb-true, eqb-false, lt-ltb, not-true}
+use borrow.Author.Tests.{eqb-true, eqb-false, ltb-true, ltb-false, not-true}
+use Rattle.word.proofs.Words.{and-true, not-not}
 use Rattle.qins.specs.Op.{Op}
-use Rattle.qins.specs.Op.Op.{Fetch}
+use Rattle.qins.specs.Decode.{kind}
+use Rattle.qins.proofs.OneWord.{one-word}
+use Rattle.qins.proofs.Formed.{Formed, decode-formed}
 use Rattle.step.specs.declared.Direction.{Direction}
 use Rattle.step.specs.declared.Direction.the-variants.{Forward, Back}
 use Rattle.step.specs.declared.Access.{Access}
-use Rattle.step.specs.declared.Effect.the-variants.{Write}
+use Rattle.step.specs.declared.Effect.{Effect}
+use Rattle.step.specs.declared.Effect.the-variants.{Write, SwapWord}
 use Rattle.step.specs.declared.Attempt.{Attempt}
-use Rattle.step.specs.declared.Attempt.the-variants.{Refused, Does}
-use Rattle.step.specs.View.{View, reg, nodes}
+use Rattle.step.specs.declared.Attempt.the-variants.{Does}
+use Rattle.step.specs.View.{View, reg, nodes, byWay}
 use Rattle.step.specs.Sizes.{badSizes}
-use Rattle.step.specs.Step.{number, refuse, attempt}
-use Rattle.step.specs.Claims.{Accesses, Addressed}
-use Rattle.step.proofs.Addresses.{addresses}
-use Rattle.machine.specs.Turn.{pc, from, to, isCode, present, judged, executed, landed, planned, turned}
-use Rattle.machine.specs.Position.{isLast}
-use Rattle.machine.specs.Calls.{Machine, Bounded, statusOf, viewOf, viewAfter, planOf, refusal, next}
-use Rattle.machine.specs.Claims.{found, Reached, isAtEnd, isOfCycle, withReg, ByAccess}
-use Rattle.machine.proofs.Room.{no-other}
-use Rattle.machine.proofs.Claims.{harmless}
+use Rattle.step.specs.Step.{storeIn, performed, number, refuse, isReady, whenReady, isAllowed, whenAllowed, attempt}
+use Rattle.step.specs.Claims.{Accesses, Within}
+use Rattle.step.specs.Claims.Accesses.{copies, exchanges}
+use Rattle.step.proofs.Addresses.{allowed-within}
+use Rattle.step.proofs.Undo.{passed}
+use Rattle.machine.specs.Turn.{pc, to, newPc, isCode, starts, finishes, present, judged, executed, landed, turned}
+use Rattle.machine.specs.Position.{end, isLast, advanced, positionAfter}
+use Rattle.machine.specs.Preview.{plannedStore}
+use Rattle.machine.specs.Calls.{machineOf, Bounded, statusOf, viewOf, updated, planOf, turnOf, memoryOf}
+use Rattle.machine.specs.Accesses.{found, left, given, accessed, AtAccess, Accessed, ByAccess, AccessMade}
+use Rattle.machine.specs.Accesses.Gives.{turn, preview}
+use Rattle.machine.specs.declared.Record.{Record}
+use Rattle.machine.specs.declared.Turned.{Turned}
+use Rattle.machine.specs.declared.Preview.{Preview}
+use Rattle.machine.proofs.Sure.{made, landed-attempt, judged-attempt}
+use Rattle.machine.proofs.Room.{last-end}
+use Rattle.machine.proofs.Inverse.{and-false}
+use Rattle.machine.proofs.Shown.{turn-leaves}
+use Rattle.machine.proofs.Whole.{end-last}
 
--- ---- a plan is the word's own attempt, or refused by one of some numbers
+-- ---- a refusal, by what its test means
 
-data Plan (P : ℕ → Bool) (x : Attempt) : Attempt → Type 0 where
-  own : Plan P x x
-  other : (n : ℕ) → P n ≡ true → Plan P x (Refused n)
-
-module _ (P : ℕ → Bool) where
-  refuse-plan : {x : Attempt} (b : Bool) (n : ℕ) (y : Attempt) → (b ≡ true → P n ≡ true) → Plan P x y → Plan P x (refuse b n y)
-  unfolding refuse
-  refuse-plan true n y h p = other n (h refl)
-  refuse-plan false n y h p = p
-
-  landed-plan : (d : Direction) (s : View) (x : Attempt) → P 18 ≡ true → Plan P x (landed d s x)
-  unfolding landed
-  landed-plan Forward s (Refused n) h = own
-  landed-plan Forward s (Does e) h = refuse-plan _ 18 (Does e) (λ z. h) own
-  landed-plan Back s x h = own
-
-  plan : (t : List ℕ) (d : Direction) (last : Bool) (s : View) → (badSizes (s .at) (s .memory) t ≡ true → P 10 ≡ true) → (last ≡ true → P 21 ≡ true)
-      → (not (isCode (s .at) (pc (from d s))) ≡ true → P 11 ≡ true) → P 12 ≡ true → P 18 ≡ true
-      → Plan P (executed t d (from d s)) (planned t d last s)
-  unfolding judged
-  plan t Forward last s sizes position code h k =
-      refuse-plan _ 10 _ sizes
-      (refuse-plan _ 21 _ position (refuse-plan _ 11 _ code (refuse-plan _ 12 _ (λ z. h) (landed-plan Forward (from Forward s) _ k))))
-  plan t Back last s sizes position code h k =
-      refuse-plan _ 10 _ sizes
-      (refuse-plan _ 21 _ position
-      (refuse-plan _ 12 _ (λ z. h) (refuse-plan _ 11 _ code (refuse-plan _ 18 _ (λ z. k) (landed-plan Back (from Back s) _ k)))))
-
-  own-plan : {x y : Attempt} → Plan P x y → P (number y) ≡ false → x ≡ y
-  own-plan own h = refl
-  own-plan (other n p) h = absurd (true≢false (sym p ∙ h))
-
--- ---- a fetr that is not refused
-
-done : (b : Bool) (n : ℕ) (x : Attempt) → n ≢ 0 → number (refuse b n x) ≡ 0 → refuse b n x ≡ x
+rule : (b : Bool) (P : Type 0) → (b ≡ true → P) → (b ≡ false → P → ⊥) → (k : ℕ) (rest : Attempt) (R : ℕ → Type 0) → (b ≡ false → R (number rest))
+    → given P k R (number (refuse b k rest))
 unfolding refuse
-done true n x z h = absurd (z h)
-done false n x z h = refl
+rule true P y n k rest R h = inl (y refl, refl)
+rule false P y n k rest R h = inr (n refl, h refl)
 
-fetches : (t : List ℕ) (d : Direction) (s : View) (a b : ℕ) → number (attempt t d (Fetch a b) s) ≡ 0
-    → attempt t d (Fetch a b) s ≡ Does (Write a (bitXor (reg s a) (getD (s .memory) (reg s b) 0)))
-unfolding attempt
-fetches t d s a b h =
-    let p = done _ 14 _ (λ e. omega (arith, e)) h in
-    p ∙ done _ 15 _ (λ e. omega (arith, e)) (ap number (sym p) ∙ h)
+-- one that does not stand
+skip : (b : Bool) (k : ℕ) (rest : Attempt) (R : ℕ → Type 0) → b ≡ false → R (number rest) → R (number (refuse b k rest))
+unfolding refuse
+skip true k rest R e h = absurd (true≢false e)
+skip false k rest R e h = h
 
--- ---- of machines
+not-back : Forward ≡ Back → ⊥
+not-back e = let z : _≡_ {A = ℕ} 0 1 = ap (λ (d : Direction). byWay d 0 1) e in omega arith
 
-module _ (table : List ℕ) (d : Direction) (y : Machine) where
+landed-refuse : (d : Direction) (s : View) (b : Bool) (k : ℕ) (x : Attempt) → landed d s (refuse b k x) ≡ refuse b k (landed d s x)
+unfolding landed refuse
+landed-refuse Forward s true k x = refl
+landed-refuse Forward s false k x = refl
+landed-refuse Back s true k x = refl
+landed-refuse Back s false k x = refl
+
+-- those before the word's own, where it is no finish
+module _ (t : List ℕ) (old : ℕ) (s : View) (Q : Type 0) (R : ℕ → Type 0) where
+  abbrev Start : Direction → Type 0
+  Start d = (d ≡ Back) × (s .at .qifw ≡ 0) × (starts (s .at) (s .memory) old ≡ true)
+
+  abbrev R11 : ℕ → Type 0
+  R11 = given (s .at .k ≤ pc s) 11 R
+
+  abbrev R12 : Direction → ℕ → Type 0
+  R12 d = given (Start d) 12 R11
+
+  abbrev R21 : Direction → ℕ → Type 0
+  R21 d = given Q 21 (R12 d)
+
+  abbrev Wrong : Type 0
+  Wrong = badSizes (s .at) (s .memory) t ≡ true
+
+  no-code : (y : Attempt) → R (number y) → R11 (number (refuse (not (isCode (s .at) (pc s))) 11 y))
+  no-code y h =
+      rule _ (s .at .k ≤ pc s) (λ z. ltb-false _ _ (not-true _ z)) (λ z p. omega (arith, p, ltb-true (pc s) (s .at .k) (not-not _ z))) 11 y R (λ _. h)
+
+  starting : isReady (s .at) && starts (s .at) (s .memory) old ≡ true → Start Back
+  starting z = let p = and-true _ _ z in (refl, eqb-true _ 0 (p .0), p .1)
+
+  started : Start Back → isReady (s .at) && starts (s .at) (s .memory) old ≡ true
+  started p = ap (λ (w : ℕ). eqb w 0 && starts (s .at) (s .memory) old) (p .1) ∙ p .2
+
+  judged-rule : (d : Direction) (last : Bool) (y : Attempt) → (last ≡ true → Q) → (last ≡ false → Q → ⊥)
+      → finishes (s .memory) (pc s) ≡ false → R (number y) → given Wrong 10 (R21 d) (number (judged t d last old s y))
+  unfolding judged
+  judged-rule Forward last y l n f h =
+      rule _ Wrong (λ z. z) (λ z p. true≢false (sym p ∙ z)) 10 _ (R21 Forward) (λ _.
+      rule last Q l n 21 _ (R12 Forward) (λ _.
+      inr (λ p. not-back (p .0), no-code _ (skip _ 12 y R f h))))
+  judged-rule Back last y l n f h =
+      rule _ Wrong (λ z. z) (λ z p. true≢false (sym p ∙ z)) 10 _ (R21 Back) (λ _.
+      rule last Q l n 21 _ (R12 Back) (λ _.
+      rule _ (Start Back) starting (λ z p. true≢false (sym (started p) ∙ z)) 12 _ R11 (λ _.
+      no-code _ (skip _ 18 y R (ap (λ (b : Bool). isReady (s .at) && b) f ∙ and-false (isReady (s .at))) h))))
+
+-- and 18 behind it, where it is done
+landed-rule : (d : Direction) (s : View) (e : Effect) (b : Bool)
+    → (d ≡ Forward → isReady (performed e s .at) && starts (s .at) (s .memory) (newPc Forward (performed e s)) ≡ b) → (d ≡ Back → b ≡ false)
+    → given (b ≡ true) 18 (λ n. n ≡ 0) (number (landed d s (Does e)))
+unfolding landed
+landed-rule Forward s e b f h =
+    subst (λ (c : Bool). given (b ≡ true) 18 (λ n. n ≡ 0) (number (refuse c 18 (Does e)))) (sym (f refl))
+    (rule b (b ≡ true) (λ z. z) (λ z p. true≢false (sym p ∙ z)) 18 (Does e) (λ n. n ≡ 0) (λ _. refl))
+landed-rule Back s e b f h = inr (λ p. true≢false (sym p ∙ h refl), refl)
+
+-- ---- an access
+
+abbrev effectOf : Access → View → ℕ → ℕ → Effect
+effectOf Access.Copy s a i = Write a (bitXor (reg s a) (getD (s .memory) i 0))
+effectOf Access.Exchange s a i = SwapWord a i
+
+module _ (s : View) where
+  attempt-is : (t : List ℕ) (d : Direction) (o : Op) (x : Access) (a i : ℕ) → Accesses s o x a i
+      → attempt t d o s ≡ whenReady (s .at) (whenAllowed x (s .at) i (Does (effectOf x s a i)))
+  unfolding attempt
+  attempt-is t d o x r i (copies a b) = refl
+  attempt-is t d o x r i (exchanges a v) = refl
+
+  access-kind : (o : Op) (x : Access) (a i : ℕ) → Accesses s o x a i → kind o ≡ 3
+  access-kind o x r i (copies a b) = refl
+  access-kind o x r i (exchanges a v) = refl
+
+  access-named : (o : Op) (x : Access) (a i : ℕ) → Accesses s o x a i → Formed o → 0 < a
+  access-named o x r i (copies a b) f = f .0 .0
+  access-named o x r i (exchanges a v) f = f .0 .0
+
+  -- pc and br after it are those of the register's change
+  same-pc : (d : Direction) (x : Access) (a i : ℕ) → newPc d (performed (effectOf x s a i) s) ≡ newPc d (accessed x a i s)
+  same-pc d Access.Copy a i = refl
+  same-pc d Access.Exchange a i = refl
+
+  same-ready : (x : Access) (a i : ℕ) → isReady (performed (effectOf x s a i) s .at) ≡ isReady (s .at)
+  same-ready Access.Copy a i = refl
+  same-ready Access.Exchange a i = refl
+
+module _ (d : Direction) (r : Record) (mem table : List ℕ) (g : Bounded (machineOf r mem)) (x : Access) (a i : ℕ)
+    (e : Accesses (found d r mem) (present (found d r mem)) x a i) where
   abbrev t : List ℕ
-  t = nodes (statusOf (y .state)) table
+  t = nodes (statusOf r) table
 
-  abbrev Own : Type 0
-  Own = executed t d (found d y) ≡ planOf d (y .state) (y .memory) table
+  abbrev s : View
+  s = found d r mem
 
-  answered : isOfCycle (refusal table d y) ≡ false → Own
-  answered h =
-      own-plan isOfCycle
-      (plan isOfCycle t d (isLast d (y .state .position)) (viewOf (y .state) (y .memory)) (λ z. refl) (λ z. refl) (λ z. refl) refl refl)
-      h
+  abbrev does : Effect
+  does = effectOf x s a i
 
-  decided : Bounded y → Reached table d y → isAtEnd (refusal table d y) ≡ false → Own
-  decided g r h =
-      own-plan isAtEnd
-      (plan isAtEnd t d (isLast d (y .state .position)) (viewOf (y .state) (y .memory)) (λ z. absurd (true≢false (sym z ∙ r .sizes)))
-      (λ z. absurd (true≢false (sym z ∙ no-other d (y .state .position) (g .position) (r .position))))
-      (λ z. absurd (true≢false (sym (lt-ltb (pc (found d y)) (y .state .k) (r .code)) ∙ not-true _ z))) refl refl)
-      h
+  is-access : kind (present s) ≡ 3
+  is-access = access-kind s (present s) x a i e
 
-  addressed : (x : Access) (i : ℕ) → Accesses (found d y) (present (found d y)) x i → Own → Addressed x (found d y .at) i (refusal table d y)
-  addressed x i a e =
-      subst (λ (b : Attempt). Addressed x (found d y .at) i (number b)) e (addresses t d (found d y) (present (found d y)) x i a)
+  no-finish : finishes (s .memory) (pc s) ≡ false
+  no-finish = one-word .finish (getD (s .memory) (pc s) 0) ∙ ap (λ (k : ℕ). eqb k 2) is-access
 
-  reads : (a b : ℕ) → present (found d y) ≡ Fetch a b → refusal table d y ≡ 0
-      → viewAfter d (y .state) (y .memory) table ≡ to d (withReg (found d y) a (bitXor (reg (found d y) a) (getD (found d y .memory) (reg (found d y) b) 0)))
-  reads a b e h =
-      let q = answered (ap isOfCycle h) in
-      let w = ap (λ (o : Op). attempt t d o (found d y)) e in
-      ap (λ (x : Attempt). turned d x (viewOf (y .state) (y .memory))) (sym q ∙ (w ∙ fetches t d (found d y) a b (ap number (sym w ∙ q) ∙ h)))
+  no-start : starts (statusOf r) (s .memory) (pc s) ≡ false
+  no-start =
+      ap (λ (b : Bool). isCode (statusOf r) (pc s) && b) (one-word .start (getD (s .memory) (pc s) 0) ∙ ap (λ (k : ℕ). eqb k 1) is-access)
+      ∙ and-false (isCode (statusOf r) (pc s))
 
-  copied : (a b : ℕ) → present (found d y) ≡ Fetch a b → next table d y .memory ≡ y .memory
-  copied a b e = go (eqb (refusal table d y) 0) refl
-    where
-      go : (c : Bool) → eqb (refusal table d y) 0 ≡ c → next table d y .memory ≡ y .memory
-      go true z =
-          ap (λ (s : View). s .memory ++ drop (y .state .m) (y .memory)) (reads a b e (eqb-true _ 0 z)) ∙ take-append-drop (y .state .m) (y .memory)
-      go false z = ap (λ (m : Machine). m .memory) (harmless .refused table d y (eqb-false _ 0 z))
+  abbrev land : Bool
+  land = starts (s .at) (s .memory) (newPc d (accessed x a i s))
+
+  ahead : isReady (statusOf r) ≡ true → d ≡ Forward → isReady (performed does s .at) && starts (s .at) (s .memory) (newPc Forward (performed does s)) ≡ land
+  ahead z q =
+      ap (λ (b : Bool). b && starts (s .at) (s .memory) (newPc Forward (performed does s))) (same-ready s x a i ∙ z)
+      ∙ (ap (λ (z : Direction). starts (s .at) (s .memory) (newPc z (performed does s))) (sym q)
+      ∙ ap (starts (s .at) (s .memory)) (same-pc s d x a i))
+
+  behind : d ≡ Back → land ≡ false
+  behind q =
+      ap (λ (z : Direction). starts (s .at) (s .memory) (newPc z (accessed x a i s))) q
+      ∙ (ap (starts (s .at) (s .memory)) (getD-set-other (s .regs) a 0 _ 0 (omega (arith, access-named s (present s) x a i e (decode-formed _))))
+      ∙ no-start)
+
+  own-is : landed d s (executed t d s) ≡ refuse (not (isReady (statusOf r))) 14 (refuse (not (isAllowed x (statusOf r) i)) 15 (landed d s (Does does)))
+  own-is =
+      ap (landed d s) (attempt-is s t d (present s) x a i e)
+      ∙ (landed-refuse d s _ 14 _ ∙ ap (refuse (not (isReady (statusOf r))) 14) (landed-refuse d s _ 15 _))
+
+  abbrev Own18 : ℕ → Type 0
+  Own18 = given (land ≡ true) 18 (λ n. n ≡ 0)
+
+  abbrev Own15 : ℕ → Type 0
+  Own15 = given (Within x (statusOf r) i → ⊥) 15 Own18
+
+  abbrev Own : ℕ → Type 0
+  Own = given (r .qifw ≢ 0) 14 Own15
+
+  within : (isAllowed x (statusOf r) i ≡ true) ↔ Within x (statusOf r) i
+  within = allowed-within x (statusOf r) i
+
+  own : Own (number (landed d s (executed t d s)))
+  own =
+      subst (λ (y : Attempt). Own (number y)) (sym own-is)
+      (rule _ (r .qifw ≢ 0) (λ z. eqb-false _ 0 (not-true _ z)) (λ z p. p (eqb-true _ 0 (not-not _ z))) 14 _ Own15 (λ z.
+      rule _ (Within x (statusOf r) i → ⊥) (λ y w. true≢false (sym (within .1 w) ∙ not-true _ y)) (λ y p. p (within .0 (not-not _ y))) 15 _ Own18 (λ _.
+      landed-rule d s does land (ahead (not-not _ z)) behind)))
+
+  at-access : AtAccess d r mem table x a i (number (planOf d r mem table))
+  at-access =
+      judged-rule t (pc (viewOf r mem)) s (r .position ≡ end d) Own d (isLast d (r .position)) (landed d s (executed t d s))
+      (last-end d (r .position) (g .position)) (λ z p. true≢false (sym (ap (isLast d) p ∙ end-last d) ∙ z)) no-finish own
+
+  -- an accepted one
+  module _ (h : number (planOf d r mem table) ≡ 0) where
+    own-does : {f : Effect} → planOf d r mem table ≡ Does f → Does does ≡ Does f
+    own-does q =
+        let l = landed-attempt d s _ (judged-attempt t d _ _ s _ q) in
+        passed _ 15 _ (passed _ 14 _ (sym (attempt-is s t d (present s) x a i e) ∙ l) .1) .1
+
+    plan-is : planOf d r mem table ≡ Does does
+    plan-is = let m = made t d (isLast d (r .position)) (viewOf r mem) h in m .is ∙ sym (own-does (m .is))
+
+    abbrev answered : Attempt → Record
+    answered y = updated r (positionAfter d y (r .position)) (turned d y (viewOf r mem) .at) (turned d y (viewOf r mem) .regs)
+
+    state-is : (x : Access) → answered (Does (effectOf x s a i)) ≡ updated r (advanced d 1 (r .position)) (statusOf r) (to d (accessed x a i s) .regs)
+    state-is Access.Copy = refl
+    state-is Access.Exchange = refl
+
+    stored-is : (x : Access) → storeIn (plannedStore (Does (effectOf x s a i)) s) mem ≡ left x mem i (reg s a)
+    stored-is Access.Copy = refl
+    stored-is Access.Exchange = refl
+
+    did : Accessed d r mem x a i (turnOf d r mem table) (memoryOf d r mem table)
+    did =
+        record {
+          state = ap answered plan-is ∙ state-is x;
+          memory = turn-leaves d r mem table (g .view) .memory ∙ (ap (λ (y : Attempt). storeIn (plannedStore y s) mem) plan-is ∙ stored-is x);
+        }
 
 pub by-access : ByAccess
-by-access =
-    record {
-      answered = λ table d y x i a h. addressed table d y x i a (answered table d y h);
-      decided = λ table d y x i a g r h. addressed table d y x i a (decided table d y g r h);
-      reads = reads;
-      copied = copied;
-    }
+by-access d r mem table n (turn t mem′ p) x a i e =
+    subst (AtAccess d r mem table x a i) (sym (ap (λ (u : Turned). u .refusal) (p .answer))) (at-access d r mem table (p .bounds) x a i e)
+by-access d r mem table n (preview q p) x a i e =
+    subst (AtAccess d r mem table x a i) (sym (ap (λ (u : Preview). u .refusal) (p .answer))) (at-access d r mem table (p .bounds) x a i e)
+
+pub access-made : AccessMade
+access-made d r mem table t mem′ p h x a i e =
+    let q = did d r mem table (p .bounds) x a i e (sym (ap (λ (u : Turned). u .refusal) (p .answer)) ∙ h) in
+    record { state = ap (λ (u : Turned). u .state) (p .answer) ∙ q .state; memory = p .memory ∙ q .memory }

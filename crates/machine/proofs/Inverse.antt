@@ -191,7 +191,7 @@ unfolding judged
 going t Forward last s h = passed last 21 _ (passed _ 10 _ h .1) .0
 going t Back last s h = passed last 21 _ (passed _ 10 _ h .1) .0
 
-and-false : (b : Bool) → b && false ≡ false
+pub and-false : (b : Bool) → b && false ≡ false
 and-false true = refl
 and-false false = refl
 

@@ -2,7 +2,7 @@
 use Prim.Native.Nat.{ℕ, zero, suc, _+_, _-_, _^_, _<_, _≤_}
 use mathlib.Core.Path.{_≡_, refl, sym, ap, ap₂, _∙_, subst, subst⁻¹}
 use mathlib.Core.Logic.{_≢_}
-use mathlib.Core.Bool.{Bool, true, false}
+use mathlib.Core.Bool.{Bool, true, false, true≢false}
 use native.Mathlib.Omega.{arith}
 use native.Mathlib.Numerals.{add-one}
 use lib.Dec.{lit<}
@@ -67,12 +67,19 @@ room-none Forward (negsuc n) f e = absurd (omega arith)
 room-none Back (pos n) f e = absurd (omega arith)
 room-none Back (negsuc n) f e = let l = f .sfits in let n-is : n ≡ 9223372036854775807 = omega arith in ap negsuc n-is
 
-pub no-other : (d : Direction) (p : ℤ) → SFits w64 p → p ≢ end d → isLast d p ≡ false
-no-other d p f h = go (room d p) refl
+pub last-end : (d : Direction) (p : ℤ) → SFits w64 p → isLast d p ≡ true → p ≡ end d
+last-end d p f h = go (room d p) refl
   where
-    go : (k : ℕ) → room d p ≡ k → isLast d p ≡ false
-    go zero e = absurd (h (room-none d p f e))
-    go (suc k) e = last-room d p f .1 (omega arith)
+    go : (k : ℕ) → room d p ≡ k → p ≡ end d
+    go zero e = room-none d p f e
+    go (suc k) e = absurd (true≢false (sym h ∙ last-room d p f .1 (omega arith)))
+
+pub no-other : (d : Direction) (p : ℤ) → SFits w64 p → p ≢ end d → isLast d p ≡ false
+no-other d p f h = go (isLast d p) refl
+  where
+    go : (b : Bool) → isLast d p ≡ b → isLast d p ≡ false
+    go true e = absurd (h (last-end d p f e))
+    go false e = e
 
 -- ---- many further
 

@@ -42,9 +42,9 @@ preview-is d r mem table {w = w} {r′ = r′} {s = s} f q p =
 -- ---- the memory that the turn leaves, by what its plan stores
 
 -- mem with the word stored, if there is one, which then is a data word that is there
-record Leaves (r : Record) (mem : List ℕ) (s : Store) (mem′ : List ℕ) : Type 0 where
-  memory : mem′ ≡ storeIn s mem
-  inside : s .made ≡ true → (r .k ≤ s .address) × (s .address < r .m) × (r .m ≤ length mem)
+pub record Leaves (r : Record) (mem : List ℕ) (s : Store) (mem′ : List ℕ) : Type 0 where
+  pub memory : mem′ ≡ storeIn s mem
+  pub inside : s .made ≡ true → (r .k ≤ s .address) × (s .address < r .m) × (r .m ≤ length mem)
 
 leaves-none : (r : Record) (mem : List ℕ) (s : Store) → s .made ≡ false → Leaves r mem s (take (r .m) mem ++ drop (r .m) mem)
 leaves-none r mem s h =
@@ -60,7 +60,7 @@ leaves d r mem (SwapWord a i) f h =
     record { memory = sym (store-in mem (r .m) i _ (f .2) (omega (arith, f .2))); inside = λ l. (f .1, f .2, long) }
 leaves d r mem (SetNode u j) f h = leaves-none r mem _ refl
 
-turn-leaves : (d : Direction) (r : Record) (mem table : List ℕ) → Bounds (viewOf r mem) → Leaves r mem (storeBy d r mem table) (memoryOf d r mem table)
+pub turn-leaves : (d : Direction) (r : Record) (mem table : List ℕ) → Bounds (viewOf r mem) → Leaves r mem (storeBy d r mem table) (memoryOf d r mem table)
 turn-leaves d r mem table g = go (planOf d r mem table) refl
   where
     go : (x : Attempt) → planOf d r mem table ≡ x

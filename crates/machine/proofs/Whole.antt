@@ -105,7 +105,7 @@ module _ (d : Direction) (R : Record) (mem table : List ℕ) (e : isLast d (R .p
         store = sym (ap (λ (a : Attempt). plannedStore a (from d (viewOf R mem))) last-is);
       }
 
-end-last : (d : Direction) → isLast d (end d) ≡ true
+pub end-last : (d : Direction) → isLast d (end d) ≡ true
 end-last Forward = refl
 end-last Back = refl
 

@@ -4,5 +4,6 @@ pub mod Calls
 pub mod Claims
 pub mod Batch
 pub mod Preview
+pub mod Accesses
 pub mod InPlace
 pub mod Marks

@@ -1,5 +1,5 @@
--- Document 01's twelve bench marks, with the rows that document 02 adds, as one table of turns under one statement. Proved in
--- proofs/Marks.
+-- Document 01's twelve bench marks, with the fetr at K-1 of document 02 and rows beside them, as one table of turns under one
+-- statement. Proved in proofs/Marks.
 use Prim.Native.Nat.{ℕ}
 use mathlib.Core.Path.{_≡_}
 use mathlib.Core.List.{List, [], _∷_}
@@ -90,10 +90,11 @@ marks =
     ∷ row Back (at 1 0 9 3 0 2 3 0 (0x11450000 ∷ 5 ∷ 6 ∷ [])) (15 ∷ 1 ∷ 0 ∷ 9 ∷ 3 ∷ 0 ∷ 0 ∷ 0x11450000 ∷ 5 ∷ 6 ∷ [])
     -- at K it reads a data word
     ∷ row Forward (at 0 0 9 2 0 2 3 0 (0x11450000 ∷ 5 ∷ 6 ∷ [])) (0 ∷ 1 ∷ 0 ∷ 15 ∷ 2 ∷ 0 ∷ 0 ∷ 0x11450000 ∷ 5 ∷ 6 ∷ [])
-    -- ldr(r1,r2) as ld: at K-1 and M 15, at K done
-    ∷ row Forward (at 0 0 9 1 0 2 3 0 (0x10450000 ∷ 5 ∷ 6 ∷ [])) (15 ∷ 0 ∷ 0 ∷ 9 ∷ 1 ∷ 0 ∷ 0 ∷ 0x10450000 ∷ 5 ∷ 6 ∷ [])
-    ∷ row Forward (at 0 0 9 3 0 2 3 0 (0x10450000 ∷ 5 ∷ 6 ∷ [])) (15 ∷ 0 ∷ 0 ∷ 9 ∷ 3 ∷ 0 ∷ 0 ∷ 0x10450000 ∷ 5 ∷ 6 ∷ [])
-    ∷ row Forward (at 0 0 9 2 0 2 3 0 (0x10450000 ∷ 5 ∷ 6 ∷ [])) (0 ∷ 1 ∷ 0 ∷ 6 ∷ 2 ∷ 0 ∷ 0 ∷ 0x10450000 ∷ 5 ∷ 9 ∷ [])
+    -- ldr(r1,r2) as ld: at K-1 and M 15; at K and M-1, of two data words, done
+    ∷ row Forward (at 0 0 9 1 0 2 4 0 (0x10450000 ∷ 5 ∷ 6 ∷ 7 ∷ [])) (15 ∷ 0 ∷ 0 ∷ 9 ∷ 1 ∷ 0 ∷ 0 ∷ 0x10450000 ∷ 5 ∷ 6 ∷ 7 ∷ [])
+    ∷ row Forward (at 0 0 9 4 0 2 4 0 (0x10450000 ∷ 5 ∷ 6 ∷ 7 ∷ [])) (15 ∷ 0 ∷ 0 ∷ 9 ∷ 4 ∷ 0 ∷ 0 ∷ 0x10450000 ∷ 5 ∷ 6 ∷ 7 ∷ [])
+    ∷ row Forward (at 0 0 9 2 0 2 4 0 (0x10450000 ∷ 5 ∷ 6 ∷ 7 ∷ [])) (0 ∷ 1 ∷ 0 ∷ 6 ∷ 2 ∷ 0 ∷ 0 ∷ 0x10450000 ∷ 5 ∷ 9 ∷ 7 ∷ [])
+    ∷ row Forward (at 0 0 9 3 0 2 4 0 (0x10450000 ∷ 5 ∷ 6 ∷ 7 ∷ [])) (0 ∷ 1 ∷ 0 ∷ 7 ∷ 3 ∷ 0 ∷ 0 ∷ 0x10450000 ∷ 5 ∷ 6 ∷ 9 ∷ [])
     -- fetr(r1,pc) reads its own word; undone, the word at the shrunk pc
     ∷ row Forward (at 7 0 9 0 0 9 9 0 (atSeven 0x11400000)) (0 ∷ 8 ∷ 0 ∷ 0x11400009 ∷ 0 ∷ 0 ∷ 0 ∷ atSeven 0x11400000)
     ∷ row Back (at 8 0 0x11400009 0 0 9 9 0 (atSeven 0x11400000)) (0 ∷ 7 ∷ 0 ∷ 9 ∷ 0 ∷ 0 ∷ 0 ∷ atSeven 0x11400000)

@@ -48,5 +48,5 @@ addressed x at i e = go (eqb (at .qifw) 0) refl (isAllowed x at i) refl
 
 pub addresses : Addresses
 unfolding attempt
-addresses t d s o x i (copies a b) = addressed Access.Copy (s .at) _ _
-addresses t d s o x i (exchanges a v) = addressed Access.Exchange (s .at) _ _
+addresses t d s o x r i (copies a b) = addressed Access.Copy (s .at) _ _
+addresses t d s o x r i (exchanges a v) = addressed Access.Exchange (s .at) _ _

@@ -12,12 +12,12 @@ use Rattle.step.specs.declared.Status.{Status}
 use Rattle.step.specs.declared.Direction.{Direction}
 use Rattle.step.specs.declared.Access.{Access}
 
--- an operation, in a view, accesses the word at an address: fetr copies it, ld and ldr exchange it
-pub data Accesses (s : View) : Op → Access → ℕ → Type 0 where
-  copies : (a b : ℕ) → Accesses s (Fetch a b) Access.Copy (reg s b)
-  exchanges : (a : ℕ) (v : Source) → Accesses s (Exchange a v) Access.Exchange (value v (s .regs))
+-- an operation, in a view, accesses by a register the word at an address: fetr copies it, ld and ldr exchange it
+pub data Accesses (s : View) : Op → Access → ℕ → ℕ → Type 0 where
+  copies : (a b : ℕ) → Accesses s (Fetch a b) Access.Copy a (reg s b)
+  exchanges : (a : ℕ) (v : Source) → Accesses s (Exchange a v) Access.Exchange a (value v (s .regs))
 
--- and may: below M, in K to M-1
+-- the addresses of its kind: for a copy those below M, for an exchange K to M-1
 abbrev pub Within : Access → Status → ℕ → Type 0
 Within Access.Copy at i = i < at .m
 Within Access.Exchange at i = (at .k ≤ i) × (i < at .m)
@@ -27,6 +27,7 @@ pub record Addressed (x : Access) (at : Status) (i n : ℕ) : Type 0 where
   pub done : (n ≡ 0) ↔ ((at .qifw ≡ 0) × Within x at i)
   pub refused : (n ≡ 15) ↔ ((at .qifw ≡ 0) × (Within x at i → ⊥))
 
+-- Claim
 abbrev pub Addresses : Type 0
 Addresses =
-    (t : List ℕ) (d : Direction) (s : View) (o : Op) (x : Access) (i : ℕ) → Accesses s o x i → Addressed x (s .at) i (number (attempt t d o s))
+    (t : List ℕ) (d : Direction) (s : View) (o : Op) (x : Access) (a i : ℕ) → Accesses s o x a i → Addressed x (s .at) i (number (attempt t d o s))

@@ -21,7 +21,7 @@ pub enum Direction {
     Back,
 }
 
-// What an instruction does with a memory word: it reads the word alone, or exchanges it with a register.
+// What an instruction does with a memory word: it only reads the word, or exchanges it with a register.
 pub enum Access {
     Copy,
     Exchange,
