@@ -43,7 +43,9 @@ fn addresses(source: &Source<'_>, machine: &Machine) -> Vec<Warning> {
     instructions(source, machine)
         .filter_map(|(line, own, instruction)| {
             let address = exchanged(own, &instruction).filter(outside)?;
-            let message = format!("{data}, so address {address} is refused by 15 in a turn");
+            let name = instruction.form.name;
+            let message =
+                format!("{data}, so an {name} of address {address} is refused by 15 in a turn");
             Some(Warning { line, message })
         })
         .collect()

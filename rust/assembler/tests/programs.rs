@@ -329,7 +329,8 @@ fn names_that_are_no_text() {
 fn warnings() {
     let folder = folder();
     folder.put("w.qasm", "start\nld r1, 0\nfinish\n");
-    let line = "line 2: warning: there are no data words, so address 0 is refused by 15 in a turn";
+    let line =
+        "line 2: warning: there are no data words, so an ld of address 0 is refused by 15 in a turn";
     let ran = folder.run("assemble -o w.img w.qasm");
     assert_eq!(ran, Ran::new(0, "", &format!("assemble: w.qasm: {line}\n")));
     assert!(folder.path("w.img").exists());

@@ -19,13 +19,14 @@ fn ends_by(source: &str) -> u32 {
 fn addresses() {
     let source = "ld r1, 0\nld r1, 2\nld r1, 3\n.data\n.word 1";
     let want = [
-        "line 1: warning: data words are 3 to 3, so address 0 is refused by 15 in a turn",
-        "line 2: warning: data words are 3 to 3, so address 2 is refused by 15 in a turn",
+        "line 1: warning: data words are 3 to 3, so an ld of address 0 is refused by 15 in a turn",
+        "line 2: warning: data words are 3 to 3, so an ld of address 2 is refused by 15 in a turn",
     ];
     assert_eq!(warnings(source), want);
     assert_eq!(ends_by(source), 15);
     let source = "start\nld r1, 1";
-    let want = "line 2: warning: there are no data words, so address 1 is refused by 15 in a turn";
+    let want =
+        "line 2: warning: there are no data words, so an ld of address 1 is refused by 15 in a turn";
     assert_eq!(warnings(source), [want]);
     assert_eq!(ends_by(source), 15);
 }
@@ -49,8 +50,9 @@ fn bounds_of_the_data() {
 /// By pc an `ldr` exchanges its own word, which is code, where a `fetr` may copy it.
 #[test]
 fn own_word() {
-    let source = |name: &str| format!("start\n{name} r1, pc\n{name} r1, r2\n.data\n.word 1");
-    let want = "line 2: warning: data words are 3 to 3, so address 1 is refused by 15 in a turn";
+    let source = |name: &str| format!("\nstart\n{name} r1, pc\n{name} r1, r2\n.data\n.word 1");
+    let want =
+        "line 3: warning: data words are 3 to 3, so an ldr of address 1 is refused by 15 in a turn";
     assert_eq!(warnings(&source("ldr")), [want]);
     assert_eq!(ends_by(&source("ldr")), 15);
     assert_eq!(warnings(&source("fetr")), [""; 0]);
@@ -98,7 +100,7 @@ fn none() {
         // A constant in the code may be copied.
         "start\nxori r1, c\nfetr r2, r1\nfinish\nc: .word 7",
         // Written as numbers, code words are nobody's mistake.
-        "start\n.word 0x01400001, 7, 0x18400000",
+        "start\n.word 0x01400001, 0x10400000, 7, 0x18400000",
         "qif r1\n.qifv 1\n.node 1 fc0=2\n.node 2 cf=1",
         // Where a qif leads is a turn's question.
         "start\nqif r1\n.node 1\n.qifv 2",
