@@ -754,23 +754,24 @@ static void refused_sizes(const Machine *start)
     }
 }
 
-/* An output one byte short, a code word that is none, and a link out of the table. */
+/* An output one byte short, a code word that is none, before any constant, and a link out of the
+ * table. No example has nodes and a constant. */
 static void refused_contents(const Machine *start)
 {
     static Machine m;
     const Record *r = &start->bench.state;
     expect_save_refused(start, image_length(r) - 1, 9);
+    const uint32_t place = first_constant(start) - 1;
     m = *start;
-    m.mem[r->k - 1] = 0;
-    const uint32_t place = first_constant(start) < r->k ? first_constant(start) : r->k - 1;
+    m.mem[place] = 0;
     expect_check(&m, 7, place);
     expect_paired(&m);
     if (r->n > 0) {
         m.table[0] = r->n + 1;
         expect_node(&m, 1, 8);
-        m.mem[r->k - 1] = start->mem[r->k - 1];
+        m.mem[place] = start->mem[place];
         expect_node(&m, 1, 8);
-        expect_check(&m, place < r->k - 1 ? 7 : 8, place < r->k - 1 ? place : 1);
+        expect_check(&m, 8, 1);
     }
 }
 

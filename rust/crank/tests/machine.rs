@@ -273,11 +273,7 @@ fn checked() {
             // The next of the last node, which has none.
             let at = spoilt.table.len() - 3;
             spoilt.table[at] = n;
-            assert_eq!(
-                found(&spoilt),
-                constant.map_or((8, n), |at| (7, at)),
-                "{name}"
-            );
+            assert_eq!(found(&spoilt), (8, n), "{name}");
             let mut answers = no_bad_nodes(n);
             answers[n as usize] = 8;
             assert_eq!(by_node(&spoilt), answers, "{name}");
