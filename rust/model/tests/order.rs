@@ -14,6 +14,8 @@ const QIF: u32 = word(24);
 const FIQ: u32 = word(25);
 /// fetr r1,r2; r2 is M until it is mended.
 const FETR: u32 = word(17) | ((R2 as u32) << 16);
+/// fetr r1,pc: its own word is a good address, so 15 never comes.
+const OWN_WORD: u32 = word(17);
 /// A word that gives no cause for refusal.
 const XORI: u32 = 0x0250_0001;
 
@@ -206,6 +208,7 @@ fn forward_accesses(turn: Turn, seen: &mut Seen) {
         (18, mend_start_behind),
     ];
     climb(FINISH, &fetr);
+    climb(OWN_WORD, &[(14, mend_waiting), (18, mend_start_behind)]);
 }
 
 /// Back turns that wait: the start at pc and the word before don't matter.
@@ -213,15 +216,19 @@ fn back_waiting_ladders(turn: Turn, seen: &mut Seen) {
     let mut climb = |word, steps: &[Step]| climb_to((Way::Back, turn), word, steps, seen);
     let waits: [Step; 3] = [(16, mend_coin), (17, mend_links), (14, mend_count)];
     climb(QIF, &waits);
-    // A finish is no reason of its own here, and neither is a fetr at M. Without
-    // the wait the turn steps back over the start at 1.
-    let other: [Step; 4] = [
+    // A finish is no reason of its own here. Without the wait the turn steps back
+    // over the start at 1.
+    let other: [Step; 3] = [
         (13, |m| m.mem[2] = FINISH),
-        (14, |m| m.mem[2] = FETR),
         (14, mend_word),
         (14, mend_waiting),
     ];
     climb(0, &other);
+    // Neither is an address, good or bad.
+    for (bad, _) in ACCESSES {
+        climb(bad, &[(14, mend_waiting)]);
+    }
+    climb(OWN_WORD, &[(14, mend_waiting)]);
 }
 
 /// Back turns with qifw 0, from pc 3 that holds start; br 9 shrinks it too far
@@ -262,6 +269,7 @@ fn back_ladders(turn: Turn, seen: &mut Seen) {
     climb(FINISH, &fetr);
     climb(FINISH, &[(18, mend_word)]);
     climb(0, &[(13, mend_word)]);
+    climb(OWN_WORD, &[]);
 }
 
 fn all(forward: Turn, back: Turn) {
