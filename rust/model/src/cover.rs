@@ -55,14 +55,16 @@ const EVENTS: [&str; 9] = [
 ];
 
 /// What accepted copies read, and how they come to the address.
-const COPIES: [&str; 11] = [
+const COPIES: [&str; 13] = [
     "copy of data",
     "copy of code",
     "copy of code, no data",
     "copy at 0",
     "copy at K-1",
+    "copy at K",
     "copy at M-1",
-    "copy of start or finish",
+    "copy of start",
+    "copy of finish",
     "copy of no instruction",
     "copy of the word behind",
     "copy by pc",
@@ -137,14 +139,19 @@ fn copy_kinds(way: Way, old: &Record, mem: &[u32], address: u32) -> [bool; COPIE
     let in_code = address < old.k;
     let word = mem[address as usize];
     let by_pc = word_at(old, mem, way).is_some_and(|word| (word >> 16) & 15 == PC as u32);
+    // Only where 0, K-1, K and M-1 are four addresses is a copy at one of them no
+    // copy at another.
+    let apart = old.k > 1 && old.m > old.k + 1;
     [
         !in_code,
         in_code,
         in_code && old.k == old.m,
-        address == 0,
-        address == old.k - 1,
-        address == old.m - 1,
-        in_code && (word == START || word == FINISH),
+        apart && address == 0,
+        apart && address == old.k - 1,
+        apart && address == old.k,
+        apart && address == old.m - 1,
+        in_code && word == START,
+        in_code && word == FINISH,
         in_code && decode(word).is_none(),
         in_code && address == own.wrapping_add(1),
         by_pc,
