@@ -7,7 +7,7 @@ use crate::state::{Machine, Way, WAYS};
 
 /// Refusals told apart: with qifw 0 and waiting; the two kinds of 14, of which
 /// the first is also counted at a finish; and 15 by the access and its address.
-const REFUSALS: [&str; 23] = [
+const REFUSALS: [&str; 25] = [
     "10",
     "11",
     "11 waiting",
@@ -18,8 +18,10 @@ const REFUSALS: [&str; 23] = [
     "14 word",
     "14 finish",
     "14 count",
+    "15 copy below M",
     "15 copy at M",
     "15 copy above M",
+    "15 exchange in data",
     "15 exchange at M",
     "15 exchange above M",
     "15 exchange in code",
@@ -33,12 +35,15 @@ const REFUSALS: [&str; 23] = [
     "21 waiting",
 ];
 
-/// Whether a kind of refusal can occur in a direction.
+/// Whether a kind of refusal can occur in a direction; 15 at a good address
+/// can in neither.
 fn reachable(way: Way, name: &str) -> bool {
-    match way {
-        Way::Forward => name != "14 finish",
-        Way::Back => name != "12 waiting" && name != "18 waiting",
-    }
+    let never: &[&str] = match way {
+        Way::Forward => &["14 finish"],
+        Way::Back => &["12 waiting", "18 waiting"],
+    };
+    let good = ["15 copy below M", "15 exchange in data"];
+    !never.contains(&name) && !good.contains(&name)
 }
 
 /// What accepted turns come by; the last four are about the position.
@@ -114,6 +119,11 @@ pub fn access_at(r: &Record, mem: &[u32], way: Way) -> Option<Access> {
     word_at(r, mem, way).and_then(decode)?.access(&regs)
 }
 
+/// Where an address is from M: 0 below, 1 at, 2 above.
+fn side(address: u32, m: u32) -> usize {
+    usize::from(address >= m) + usize::from(address > m)
+}
+
 fn refusal_index(refusal: u32, r: &Record, word: Option<u32>, access: Option<Access>) -> usize {
     let is_qif = word.and_then(decode).is_some_and(|ins| ins.is_qif());
     let waiting = usize::from(r.qifw > 0);
@@ -121,14 +131,15 @@ fn refusal_index(refusal: u32, r: &Record, word: Option<u32>, access: Option<Acc
         11..=13 => 2 * (refusal as usize - 11) + 1 + waiting,
         14 if is_qif => 9,
         14 => 7 + usize::from(word == Some(FINISH)),
-        15 => match access {
-            Some(Access::Exchange(address)) if address < r.k => 14,
-            Some(Access::Exchange(address)) => 12 + usize::from(address > r.m),
-            other => 10 + usize::from(other.is_some_and(|copy| copy.address() > r.m)),
+        15 => match access.expect("15 without an access") {
+            Access::Exchange(address) if address < r.k => 16,
+            Access::Exchange(address) => 13 + side(address, r.m),
+            Access::Copy(address) => 10 + side(address, r.m),
         },
-        16..=18 => 2 * (refusal as usize - 16) + 15 + waiting,
-        21 => 21 + waiting,
-        _ => 0,
+        16..=18 => 2 * (refusal as usize - 16) + 17 + waiting,
+        21 => 23 + waiting,
+        10 => 0,
+        _ => panic!("{refusal} is no refusal of a turn"),
     }
 }
 
