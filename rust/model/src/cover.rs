@@ -85,7 +85,7 @@ struct Counts {
 }
 
 impl Counts {
-    /// The counts that are to be above 0 in every direction, by their names.
+    /// What accepted turns came by and copied, by name.
     fn met(&self) -> impl Iterator<Item = (&&str, u64)> {
         let events = EVENTS.iter().zip(self.events);
         events.chain(COPIES.iter().zip(self.copies))
@@ -262,13 +262,14 @@ impl Cover {
                     missed.push(format!("{way:?} opcode and para {kind:?}: {times}"));
                 }
             }
-            for (name, times) in counts.met() {
+            for (name, times) in EVENTS.iter().zip(counts.events) {
                 if times == 0 {
                     missed.push(format!("{way:?} {name}"));
                 }
             }
         }
         assert!(missed.is_empty(), "not as expected: {missed:?}");
+        self.demand_copies();
     }
 
     /// One line of counts.
