@@ -144,10 +144,18 @@ fn turns() {
     each(|start| {
         for way in WAYS {
             let mut machine = start.clone();
-            same_turn(way, &mut machine, turns[way as usize], &mut cover);
+            let refusal = same_turn(way, &mut machine, turns[way as usize], &mut cover);
+            if start.mem.first() == Some(&word_r(17, R1, R2)) {
+                cover.count(&format!("{way:?} fetr {refusal}"));
+            }
         }
     });
     cover.summary("limits");
+    for way in WAYS {
+        for refusal in [0, 10, 11, 15] {
+            cover.demand(&[&format!("{way:?} fetr {refusal}")]);
+        }
+    }
     assert_eq!(seen(turns), seen(WAYS.map(|way| way.model())));
 }
 
