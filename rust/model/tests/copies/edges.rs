@@ -17,7 +17,7 @@ const TABLES: [(u32, u32, &[Row]); 4] = [
     (2, 8, &ALL_LENT),
 ];
 
-const CODE_AND_DATA: [Row; 26] = [
+const CODE_AND_DATA: [Row; 29] = [
     (0x0140_0000, 0, REFUSED_15),
     (0x0140_0001, 0, REFUSED_15),
     (0x0140_0002, 0, REFUSED_15),
@@ -25,6 +25,7 @@ const CODE_AND_DATA: [Row; 26] = [
     (0x0140_0005, 0, exchanged(0x55, 5)),
     (0x0140_0006, 0, REFUSED_15),
     (0x0140_0007, 0, REFUSED_15),
+    (0x0140_0008, 0, REFUSED_15),
     (0x0140_FFFF, 0, REFUSED_15),
     (LDR, 0, REFUSED_15),
     (LDR, 1, REFUSED_15),
@@ -33,6 +34,7 @@ const CODE_AND_DATA: [Row; 26] = [
     (LDR, 5, exchanged(0x55, 5)),
     (LDR, 6, REFUSED_15),
     (LDR, 7, REFUSED_15),
+    (LDR, 8, REFUSED_15),
     (LDR, 0x8000_0003, REFUSED_15),
     (LDR, 4_294_967_295, REFUSED_15),
     (FETR, 0, read(0x1234_567D)),
@@ -42,6 +44,7 @@ const CODE_AND_DATA: [Row; 26] = [
     (FETR, 5, read(0x50)),
     (FETR, 6, REFUSED_15),
     (FETR, 7, REFUSED_15),
+    (FETR, 8, REFUSED_15),
     (FETR, 0x8000_0003, REFUSED_15),
     (FETR, 4_294_967_295, REFUSED_15),
 ];
@@ -118,7 +121,7 @@ fn by_hand() {
         }
     }
     println!("edges: {rows} rows, {answers} answers");
-    assert_eq!((rows, answers), (61, 61 * 12));
+    assert_eq!((rows, answers), (64, 64 * 12));
 }
 
 /// The largest memory, with a word more lent. What stands at 8,190, 8,191 and
