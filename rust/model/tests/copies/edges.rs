@@ -1,12 +1,11 @@
 //! ld, ldr and fetr at every edge of code, data and lent words.
 
-use super::{exchanged, read, Answer, Around, AT, REFUSED_15};
+use super::{exchanged, read, Answer, Around, AT, FETR, REFUSED_15};
 
 /// The instruction, r2, and the answer.
 type Row = (u32, u32, Answer);
 
 const LDR: u32 = 0x1045_0000;
-const FETR: u32 = 0x1145_0000;
 
 /// K, M and the rows. Eight words are lent each time, those from M on in vain:
 /// 0x12345678, the instruction, 0xC0DE0002, 0x33, 0x44, 0x55, 0x66, 0x77.
@@ -94,31 +93,31 @@ const ALL_LENT: [Row; 12] = [
     (FETR, 8, REFUSED_15),
 ];
 
+/// Every row, with its instruction among these words; gives how many answers.
+fn all_rows(k: u32, m: u32, mem: &mut [u32], rows: &[Row]) -> usize {
+    let mut answers = 0;
+    for (word, r2, answer) in rows {
+        mem[AT as usize] = *word;
+        let around = Around {
+            k,
+            m,
+            mem,
+            br: 0,
+            next: 2,
+            r2: *r2,
+        };
+        answers += around.both_ways(answer);
+    }
+    answers
+}
+
 #[test]
 fn by_hand() {
     let (mut rows, mut answers) = (0, 0);
+    let mut mem = [0x1234_5678, 0, 0xC0DE_0002, 0x33, 0x44, 0x55, 0x66, 0x77];
     for (k, m, table) in TABLES {
-        for (word, r2, answer) in table {
-            let around = Around {
-                k,
-                m,
-                mem: &[
-                    0x1234_5678,
-                    *word,
-                    0xC0DE_0002,
-                    0x33,
-                    0x44,
-                    0x55,
-                    0x66,
-                    0x77,
-                ],
-                br: 0,
-                next: 2,
-                r2: *r2,
-            };
-            rows += 1;
-            answers += around.both_ways(answer);
-        }
+        rows += table.len();
+        answers += all_rows(k, m, &mut mem, table);
     }
     println!("edges: {rows} rows, {answers} answers");
     assert_eq!((rows, answers), (64, 64 * 12));
@@ -158,22 +157,11 @@ const LARGEST: [(u32, &[Row]); 2] = [
 #[test]
 fn largest_memory() {
     let (mut rows, mut answers) = (0, 0);
+    let mut mem = vec![0; 8190];
+    mem.extend([0x90, 0x91, 0x92]);
     for (k, table) in LARGEST {
-        for (word, r2, answer) in table {
-            let mut mem = vec![0; 8190];
-            mem.extend([0x90, 0x91, 0x92]);
-            mem[AT as usize] = *word;
-            let around = Around {
-                k,
-                m: 8192,
-                mem: &mem,
-                br: 0,
-                next: 2,
-                r2: *r2,
-            };
-            rows += 1;
-            answers += around.both_ways(answer);
-        }
+        rows += table.len();
+        answers += all_rows(k, 8192, &mut mem, table);
     }
     println!("largest memory: {rows} rows, {answers} answers");
     assert_eq!((rows, answers), (16, 16 * 12));

@@ -24,6 +24,9 @@ const PREVIEWS: [(&str, [PreviewCall; 2]); 2] = [
 const AT: u32 = 1;
 const R1: u32 = 5;
 
+/// fetr r1,r2.
+const FETR: u32 = 0x1145_0000;
+
 /// What a turn gives: its refusal, r1 after it, and the memory word that is then
 /// another, with its address.
 #[derive(Clone, Copy, Debug)]

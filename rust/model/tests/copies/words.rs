@@ -1,10 +1,9 @@
 //! What a fetr reads in code: start, finish, instructions and words that are
 //! none, before it, behind it and further on. None of them is executed by it.
 
-use super::{read, refused, Around};
+use super::{read, refused, Around, FETR};
 use crank_model::state::Way::{Back, Forward};
 
-const FETR: u32 = 0x1145_0000;
 const START: u32 = 0x1A00_0000;
 const FINISH: u32 = 0x1B00_0000;
 
