@@ -1,9 +1,18 @@
-// Signed numbers of 64 bits: how large they are, their bits, and those as two words.
+// Words compared as signed; and signed numbers of 64 bits: how large they are, their bits, and those as two words.
 ghost use mathlib.Core.Path.{_≡_};
 ghost use Prim.Native.Nat.{_+_, _*_, _/_, _%_, _^_};
 ghost use lib.Signed.{mag};
 ghost use mir.Syntax.{w64};
 ghost use mir.Val.{ofZ, toZ};
+ghost use Rattle.word.specs.Word.{isLess};
+use crate::add_word;
+
+// a is less than b, both two's complement: with their top bits flipped the words are in that order.
+pub fn is_less(a: u32, b: u32) -> bool
+    ensures { λ r. ⌜ r ≡ isLess a b ⌝ }
+{
+    add_word(a, 2147483648) < add_word(b, 2147483648)
+}
 
 // p or, below 0, -1 - p, as the kit has it.
 pub fn magnitude(p: i64) -> u64
