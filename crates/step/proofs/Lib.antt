@@ -3,5 +3,6 @@ pub mod Sized
 pub mod Known
 pub mod Numbers
 pub mod Addresses
+pub mod Results
 pub mod Undo
 pub mod Stores

@@ -10,7 +10,7 @@ use lib.ListN.{length, getD, set, length-set}
 use lib.Seq.{getD-set-same, getD-set-other, set-getD, set-set, set-comm}
 use lib.Bits.{bitXor, xor-lt}
 use borrow.Author.Tests.{ltb-true, ltb-false, eqb-true, eqb-false, lt-ltb, le-ltb, ne-eqb}
-use Rattle.word.specs.Word.{pick, subWord, withBit}
+use Rattle.word.specs.Word.{pick, subWord, withBit, isLess}
 use Rattle.word.proofs.Words.{xor-again, add-sub, sub-add, neg-neg, bit-back, bit-word, add-word, sub-word, mul-word, div-word, pick-word, and-true, not-not}
 use Rattle.qins.specs.Op.{Op, Source}
 use Rattle.qins.specs.Op.Op.{None, Start, Finish, Xor, Add, Sub, Neg, Swap, SwapBits, Fetch, Exchange, Qif, Fiq}
@@ -101,7 +101,7 @@ value-word (Sum b c) l a h f = add-word (getD l b 0) (getD l c 0)
 value-word (Product b c) l a h f = mul-word (getD l b 0) (getD l c 0)
 value-word (Quotient b c) l a h f = div-word (getD l b 0) (getD l c 0) (f b)
 value-word (Equal b c) l a h f = pick-word (eqb (getD l b 0) (getD l c 0)) 1 0 (omega arith) (omega arith)
-value-word (Less b c) l a h f = pick-word (ltb (getD l b 0) (getD l c 0)) 1 0 (omega arith) (omega arith)
+value-word (Less b c) l a h f = pick-word (isLess (getD l b 0) (getD l c 0)) 1 0 (omega arith) (omega arith)
 value-word (IfZero b i) l a h f = pick-word (eqb (getD l b 0) 0) i 0 (h .1) (omega arith)
 value-word (IfNonzero b i) l a h f = pick-word (eqb (getD l b 0) 0) 0 i (omega arith) (h .1)
 value-word (Bit b) l a h f = omega arith

@@ -5,7 +5,7 @@ use mathlib.Core.List.{List}
 use lib.Dec.{eqb, ltb, leb}
 use lib.ListN.{getD, set}
 use lib.Bits.{bitXor}
-use Rattle.word.specs.Word.{pick, addWord, subWord, mulWord, divWord, complement, withBit}
+use Rattle.word.specs.Word.{pick, addWord, subWord, mulWord, divWord, complement, withBit, isLess}
 use Rattle.qins.specs.Op.{Op, Source}
 use Rattle.qins.specs.Op.Op.{None, Start, Finish, Xor, Add, Sub, Neg, Swap, SwapBits, Fetch, Exchange, Qif, Fiq}
 use Rattle.qins.specs.Op.Source.{Imm, Reg, Negated, Complement, Sum, Product, Quotient, Equal, Less, IfZero, IfNonzero, Bit}
@@ -73,7 +73,7 @@ value (Sum a b) l = addWord (getD l a 0) (getD l b 0)
 value (Product a b) l = mulWord (getD l a 0) (getD l b 0)
 value (Quotient a b) l = divWord (getD l a 0) (getD l b 0)
 value (Equal a b) l = pick (eqb (getD l a 0) (getD l b 0)) 1 0
-value (Less a b) l = pick (ltb (getD l a 0) (getD l b 0)) 1 0
+value (Less a b) l = pick (isLess (getD l a 0) (getD l b 0)) 1 0
 value (IfZero a i) l = pick (eqb (getD l a 0) 0) i 0
 value (IfNonzero a i) l = pick (eqb (getD l a 0) 0) 0 i
 value (Bit a) l = getD l a 0 % 2

@@ -35,6 +35,7 @@ use qins::names_none;
 use qins::names_one;
 use qins::names_three;
 use qins::names_two;
+use word::signed::is_less;
 
 // ---- refusals
 
@@ -350,7 +351,7 @@ fn attempt_arib(
         ),
         1280 => known(
             names_three(a, b, c),
-            xor_into(at, regs, a, word::choose(x < y, 1, 0)),
+            xor_into(at, regs, a, word::choose(is_less(x, y), 1, 0)),
         ),
         _ => Attempt::Refused(13),
     }
