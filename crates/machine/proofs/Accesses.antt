@@ -24,24 +24,22 @@ use Rattle.step.specs.declared.Attempt.{Attempt}
 use Rattle.step.specs.declared.Attempt.the-variants.{Does}
 use Rattle.step.specs.View.{View, reg, nodes, byWay}
 use Rattle.step.specs.Sizes.{badSizes}
-use Rattle.step.specs.Step.{storeIn, performed, number, refuse, isReady, whenReady, isAllowed, whenAllowed, attempt}
+use Rattle.step.specs.Step.{storeOf, storeIn, performed, number, refuse, isReady, whenReady, isAllowed, whenAllowed, attempt}
 use Rattle.step.specs.Claims.{Accesses, Within}
 use Rattle.step.specs.Claims.Accesses.{copies, exchanges}
 use Rattle.step.proofs.Addresses.{allowed-within}
 use Rattle.step.proofs.Undo.{passed}
-use Rattle.machine.specs.Turn.{pc, to, newPc, isCode, starts, finishes, present, judged, executed, landed, turned}
-use Rattle.machine.specs.Position.{end, isLast, advanced, positionAfter}
-use Rattle.machine.specs.Preview.{plannedStore}
+use Rattle.machine.specs.Turn.{pc, to, newPc, isCode, starts, finishes, present, judged, executed, landed}
+use Rattle.machine.specs.Position.{end, isLast, advanced}
 use Rattle.machine.specs.Calls.{machineOf, Bounded, statusOf, viewOf, updated, planOf, turnOf, memoryOf}
-use Rattle.machine.specs.Accesses.{found, left, given, accessed, AtAccess, Accessed, ByAccess, AccessMade}
+use Rattle.machine.specs.Accesses.{found, moved, left, given, accessed, AtAccess, Accessed, ByAccess, AccessMade}
 use Rattle.machine.specs.Accesses.Gives.{turn, preview}
 use Rattle.machine.specs.declared.Record.{Record}
 use Rattle.machine.specs.declared.Turned.{Turned}
 use Rattle.machine.specs.declared.Preview.{Preview}
-use Rattle.machine.proofs.Sure.{made, landed-attempt, judged-attempt}
 use Rattle.machine.proofs.Room.{last-end}
 use Rattle.machine.proofs.Inverse.{and-false}
-use Rattle.machine.proofs.Shown.{turn-leaves}
+use Rattle.machine.proofs.Effects.{effected}
 use Rattle.machine.proofs.Whole.{end-last}
 
 -- ---- a refusal, by what its test means
@@ -215,32 +213,19 @@ module _ (d : Direction) (r : Record) (mem table : List ℕ) (g : Bounded (machi
       (last-end d (r .position) (g .position)) (λ z p. true≢false (sym (ap (isLast d) p ∙ end-last d) ∙ z)) no-finish own
 
   -- an accepted one
-  module _ (h : number (planOf d r mem table) ≡ 0) where
-    own-does : {f : Effect} → planOf d r mem table ≡ Does f → Does does ≡ Does f
-    own-does q =
-        let l = landed-attempt d s _ (judged-attempt t d _ _ s _ q) in
-        passed _ 15 _ (passed _ 14 _ (sym (attempt-is s t d (present s) x a i e) ∙ l) .1) .1
+  own-does : (f : Effect) → executed t d s ≡ Does f → Does does ≡ Does f
+  own-does f q = passed _ 15 _ (passed _ 14 _ (sym (attempt-is s t d (present s) x a i e) ∙ q) .1) .1
 
-    plan-is : planOf d r mem table ≡ Does does
-    plan-is = let m = made t d (isLast d (r .position)) (viewOf r mem) h in m .is ∙ sym (own-does (m .is))
+  state-is : (x : Access) → updated r (advanced d 1 (r .position)) (performed (effectOf x s a i) s .at) (to d (performed (effectOf x s a i) s) .regs) ≡ moved d r (accessed x a i s)
+  state-is Access.Copy = refl
+  state-is Access.Exchange = refl
 
-    abbrev answered : Attempt → Record
-    answered y = updated r (positionAfter d y (r .position)) (turned d y (viewOf r mem) .at) (turned d y (viewOf r mem) .regs)
+  stored-is : (x : Access) → storeIn (storeOf (effectOf x s a i) (s .regs)) mem ≡ left x mem i (reg s a)
+  stored-is Access.Copy = refl
+  stored-is Access.Exchange = refl
 
-    state-is : (x : Access) → answered (Does (effectOf x s a i)) ≡ updated r (advanced d 1 (r .position)) (statusOf r) (to d (accessed x a i s) .regs)
-    state-is Access.Copy = refl
-    state-is Access.Exchange = refl
-
-    stored-is : (x : Access) → storeIn (plannedStore (Does (effectOf x s a i)) s) mem ≡ left x mem i (reg s a)
-    stored-is Access.Copy = refl
-    stored-is Access.Exchange = refl
-
-    did : Accessed d r mem x a i (turnOf d r mem table) (memoryOf d r mem table)
-    did =
-        record {
-          state = ap answered plan-is ∙ state-is x;
-          memory = turn-leaves d r mem table (g .view) .memory ∙ (ap (λ (y : Attempt). storeIn (plannedStore y s) mem) plan-is ∙ stored-is x);
-        }
+  did : number (planOf d r mem table) ≡ 0 → Accessed d r mem x a i (turnOf d r mem table) (memoryOf d r mem table)
+  did h = let q = effected d r mem table g h does own-does in record { state = q .state ∙ state-is x; memory = q .memory ∙ stored-is x }
 
 pub by-access : ByAccess
 by-access d r mem table n (turn t mem′ p) x a i e =

@@ -10,6 +10,8 @@ pub mod Batches
 pub mod Loops
 pub mod Runs
 pub mod Marks
+pub mod Effects
 pub mod Accesses
+pub mod Results
 pub mod Instruction
 pub mod Shown

@@ -5,7 +5,7 @@ use mathlib.Core.List.{List, [], _∷_}
 use Prim.Native.Nat.{ℕ}
 use lib.Dec.{eqb}
 use borrow.Author.Tests.{eqb-true}
-use Rattle.word.specs.Word.{addWord, subWord, mulWord}
+use Rattle.word.specs.Word.{addWord, subWord, mulWord, signed, isLess}
 use Rattle.word.proofs.Words.{and-true}
 use Rattle.qins.specs.Decode.{decode, operation, line, extended}
 use Rattle.step.specs.Table.{link, paired}
@@ -38,7 +38,7 @@ hold (m ∷ rest) h =
     (equal-is _ _ (p .0), hold rest (p .1))
 
 tested : test marks ≡ true
-unfolding addWord subWord mulWord decode operation line extended link paired value refuse attempt qif child enter inRange badSizes judged landed after
+unfolding addWord subWord mulWord signed isLess decode operation line extended link paired value refuse attempt qif child enter inRange badSizes judged landed after
 tested = refl
 
 pub marks-hold : Hold marks

@@ -24,6 +24,14 @@ use Rattle.machine.specs.declared.Preview.{Preview}
 abbrev pub found : Direction → Record → List ℕ → View
 found d r mem = from d (viewOf r mem)
 
+-- the view s with another word in register a
+abbrev pub withReg : View → ℕ → ℕ → View
+withReg s a v = record { at = s .at; regs = set (s .regs) a v; memory = s .memory }
+
+-- r with the registers of s, pc and the position moved on, and the rest as it was
+abbrev pub moved : Direction → Record → View → Record
+moved d r s = updated r (advanced d 1 (r .position)) (statusOf r) (to d s .regs)
+
 -- ---- what an access does, with its register's word v and the word w at its address i
 
 -- what the register gets
@@ -38,7 +46,7 @@ left Access.Exchange mem i v = set mem i v
 
 -- the view s with register a as it then is
 abbrev pub accessed : Access → ℕ → ℕ → View → View
-accessed x a i s = record { at = s .at; regs = set (s .regs) a (got x (reg s a) (getD (s .memory) i 0)); memory = s .memory }
+accessed x a i s = withReg s a (got x (reg s a) (getD (s .memory) i 0))
 
 -- ---- the refusals at an access, in order
 
@@ -70,10 +78,10 @@ ByAccess =
     (d : Direction) (r : Record) (mem table : List ℕ) (n : ℕ) → Gives d r mem table n → (x : Access) (a i : ℕ)
     → Accesses (found d r mem) (present (found d r mem)) x a i → AtAccess d r mem table x a i n
 
--- ---- what an accepted turn leaves: register a and the memory by the kind, pc and the position moved, and the rest as it was
+-- ---- what an accepted turn leaves: register a and the memory by the kind
 
 pub record Accessed (d : Direction) (r : Record) (mem : List ℕ) (x : Access) (a i : ℕ) (t : Turned) (mem′ : List ℕ) : Type 0 where
-  pub state : t .state ≡ updated r (advanced d 1 (r .position)) (statusOf r) (to d (accessed x a i (found d r mem)) .regs)
+  pub state : t .state ≡ moved d r (accessed x a i (found d r mem))
   pub memory : mem′ ≡ left x mem i (reg (found d r mem) a)
 
 -- Claim

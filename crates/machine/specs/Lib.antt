@@ -5,5 +5,6 @@ pub mod Claims
 pub mod Batch
 pub mod Preview
 pub mod Accesses
+pub mod Results
 pub mod InPlace
 pub mod Marks

@@ -1,5 +1,5 @@
--- Document 01's twelve bench marks, with the fetr at K-1 of document 02 and rows beside them, as one table of turns under one
--- statement. Proved in proofs/Marks.
+-- Document 01's twelve bench marks, with the fetr at K-1 and the signed less of document 02 and rows beside them, as one table of
+-- turns under one statement. Proved in proofs/Marks.
 use Prim.Native.Nat.{ℕ}
 use mathlib.Core.Path.{_≡_}
 use mathlib.Core.List.{List, [], _∷_}
@@ -103,6 +103,13 @@ marks =
     -- (i) 7 divided by 0 gives 0, which leaves r1 as it is: arib(r1,r2,r3,3); by pc, 7, it gives 1: arib(r1,r2,pc,3)
     ∷ row Forward (at 0 0 9 7 0 1 1 0 (0x23456300 ∷ [])) (0 ∷ 1 ∷ 0 ∷ 9 ∷ 7 ∷ 0 ∷ 0 ∷ 0x23456300 ∷ [])
     ∷ row Forward (at 7 0 9 7 0 9 9 0 (atSeven 0x23450300)) (0 ∷ 8 ∷ 0 ∷ 8 ∷ 7 ∷ 0 ∷ 0 ∷ atSeven 0x23450300)
+    -- and of document 02, #108: -1 is less than 0, arib(r1,r2,r3,5), and undone; 0 is not less than -1, arib(r1,r3,r2,5)
+    ∷ row Forward (at 0 0 9 4294967295 0 1 1 0 (0x23456500 ∷ [])) (0 ∷ 1 ∷ 0 ∷ 8 ∷ 4294967295 ∷ 0 ∷ 0 ∷ 0x23456500 ∷ [])
+    ∷ row Back (at 1 0 8 4294967295 0 1 1 0 (0x23456500 ∷ [])) (0 ∷ 0 ∷ 0 ∷ 9 ∷ 4294967295 ∷ 0 ∷ 0 ∷ 0x23456500 ∷ [])
+    ∷ row Forward (at 0 0 9 4294967295 0 1 1 0 (0x23465500 ∷ [])) (0 ∷ 1 ∷ 0 ∷ 9 ∷ 4294967295 ∷ 0 ∷ 0 ∷ 0x23465500 ∷ [])
+    -- -1 does not equal 1, arib(r1,r2,pc,4); the largest word divided by 7 is 0x24924924, arib(r1,r2,pc,3)
+    ∷ row Forward (at 1 0 9 4294967295 0 2 2 0 (0 ∷ 0x23450400 ∷ [])) (0 ∷ 2 ∷ 0 ∷ 9 ∷ 4294967295 ∷ 0 ∷ 0 ∷ 0 ∷ 0x23450400 ∷ [])
+    ∷ row Forward (at 7 0 9 4294967295 0 9 9 0 (atSeven 0x23450300)) (0 ∷ 8 ∷ 0 ∷ 0x2492492D ∷ 4294967295 ∷ 0 ∷ 0 ∷ atSeven 0x23450300)
     -- (j) qif into w = 2 takes three turns
     ∷ waiting 0 (0 ∷ 0 ∷ 0 ∷ 1 ∷ 0 ∷ 2 ∷ 2 ∷ 0x18400000 ∷ [])
     ∷ waiting 1 (0 ∷ 0 ∷ 0 ∷ 1 ∷ 0 ∷ 2 ∷ 1 ∷ 0x18400000 ∷ [])
