@@ -31,8 +31,8 @@ use Rattle.step.proofs.Addresses.{allowed-within}
 use Rattle.step.proofs.Undo.{passed}
 use Rattle.machine.specs.Turn.{pc, to, newPc, isCode, starts, finishes, present, judged, executed, landed}
 use Rattle.machine.specs.Position.{end, isLast, advanced}
-use Rattle.machine.specs.Calls.{machineOf, Bounded, statusOf, viewOf, updated, planOf, turnOf, memoryOf}
-use Rattle.machine.specs.Accesses.{found, moved, left, given, accessed, AtAccess, Accessed, ByAccess, AccessMade}
+use Rattle.machine.specs.Calls.{machineOf, Bounded, statusOf, viewOf, updated, planOf, turnOf, memoryOf, found, moved}
+use Rattle.machine.specs.Accesses.{left, given, accessed, AtAccess, Accessed, ByAccess, AccessMade}
 use Rattle.machine.specs.Accesses.Gives.{turn, preview}
 use Rattle.machine.specs.declared.Record.{Record}
 use Rattle.machine.specs.declared.Turned.{Turned}

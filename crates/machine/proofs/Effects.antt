@@ -11,8 +11,7 @@ use Rattle.step.specs.Step.{storeOf, storeIn, performed, number}
 use Rattle.machine.specs.Turn.{to, executed, turned}
 use Rattle.machine.specs.Position.{isLast, advanced, positionAfter}
 use Rattle.machine.specs.Preview.{plannedStore}
-use Rattle.machine.specs.Calls.{machineOf, Bounded, statusOf, viewOf, updated, planOf, turnOf, memoryOf}
-use Rattle.machine.specs.Accesses.{found}
+use Rattle.machine.specs.Calls.{machineOf, Bounded, statusOf, viewOf, updated, planOf, turnOf, memoryOf, found}
 use Rattle.machine.specs.declared.Record.{Record}
 use Rattle.machine.proofs.Sure.{made, landed-attempt, judged-attempt}
 use Rattle.machine.proofs.Shown.{turn-leaves}

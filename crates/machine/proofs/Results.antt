@@ -15,8 +15,7 @@ use Rattle.step.specs.Claims.{Result}
 use Rattle.step.proofs.Results.{results}
 use Rattle.step.proofs.Undo.{passed}
 use Rattle.machine.specs.Turn.{present, executed}
-use Rattle.machine.specs.Calls.{machineOf, Bounded, statusOf, viewOf, planOf, turnOf, memoryOf}
-use Rattle.machine.specs.Accesses.{found}
+use Rattle.machine.specs.Calls.{machineOf, Bounded, statusOf, viewOf, planOf, turnOf, memoryOf, found}
 use Rattle.machine.specs.Results.{Xored, ResultMade}
 use Rattle.machine.specs.declared.Record.{Record}
 use Rattle.machine.specs.declared.Turned.{Turned}

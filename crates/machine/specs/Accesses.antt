@@ -10,27 +10,15 @@ use lib.Bits.{bitXor}
 use Rattle.step.specs.declared.Direction.{Direction}
 use Rattle.step.specs.declared.Direction.the-variants.{Back}
 use Rattle.step.specs.declared.Access.{Access}
-use Rattle.step.specs.View.{View, reg}
+use Rattle.step.specs.View.{View, reg, withReg}
 use Rattle.step.specs.Claims.{Accesses, Within}
-use Rattle.machine.specs.Turn.{pc, from, to, newPc, starts, present}
-use Rattle.machine.specs.Position.{end, advanced}
-use Rattle.machine.specs.Calls.{statusOf, viewOf, updated, wrongSizes, TurnPromise}
+use Rattle.machine.specs.Turn.{pc, newPc, starts, present}
+use Rattle.machine.specs.Position.{end}
+use Rattle.machine.specs.Calls.{viewOf, wrongSizes, found, moved, TurnPromise}
 use Rattle.machine.specs.Preview.{PreviewPromise}
 use Rattle.machine.specs.declared.Record.{Record}
 use Rattle.machine.specs.declared.Turned.{Turned}
 use Rattle.machine.specs.declared.Preview.{Preview}
-
--- what a turn this way finds, with pc at its word
-abbrev pub found : Direction → Record → List ℕ → View
-found d r mem = from d (viewOf r mem)
-
--- the view s with another word in register a
-abbrev pub withReg : View → ℕ → ℕ → View
-withReg s a v = record { at = s .at; regs = set (s .regs) a v; memory = s .memory }
-
--- r with the registers of s, pc and the position moved on, and the rest as it was
-abbrev pub moved : Direction → Record → View → Record
-moved d r s = updated r (advanced d 1 (r .position)) (statusOf r) (to d s .regs)
 
 -- ---- what an access does, with its register's word v and the word w at its address i
 

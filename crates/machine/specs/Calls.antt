@@ -15,8 +15,8 @@ use Rattle.step.specs.declared.Attempt.{Attempt}
 use Rattle.step.specs.View.{View, Bounds, seen, nodes}
 use Rattle.step.specs.Sizes.{badSizes}
 use Rattle.step.specs.Step.{number}
-use Rattle.machine.specs.Turn.{planAt, turnedAt}
-use Rattle.machine.specs.Position.{isLast, positionAfter}
+use Rattle.machine.specs.Turn.{from, to, planAt, turnedAt}
+use Rattle.machine.specs.Position.{isLast, advanced, positionAfter}
 use Rattle.machine.specs.declared.Record.{Record}
 use Rattle.machine.specs.declared.Turned.{Turned}
 
@@ -76,6 +76,16 @@ turnOf d r mem table =
 -- the lent memory at exit: its first M words as the turn leaves them, and the excess as it was
 abbrev pub memoryOf : Direction → Record → List ℕ → List ℕ → List ℕ
 memoryOf d r mem table = viewAfter d r mem table .memory ++ drop (r .m) mem
+
+-- ---- and of it in parts, for the claims on single words
+
+-- what a turn this way finds, with pc at its word
+abbrev pub found : Direction → Record → List ℕ → View
+found d r mem = from d (viewOf r mem)
+
+-- r with the registers of s, pc and the position as a turn this way leaves them, and the rest as it was
+abbrev pub moved : Direction → Record → View → Record
+moved d r s = updated r (advanced d 1 (r .position)) (statusOf r) (to d s .regs)
 
 -- ---- a machine: a record and the whole lent memory, as the calls hand them on
 

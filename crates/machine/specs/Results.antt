@@ -7,11 +7,10 @@ use lib.Bits.{bitXor}
 use Rattle.qins.specs.Op.{Source}
 use Rattle.qins.specs.Op.Op.{Xor}
 use Rattle.step.specs.declared.Direction.{Direction}
-use Rattle.step.specs.View.{View, reg}
+use Rattle.step.specs.View.{reg, withReg}
 use Rattle.step.specs.Claims.{Result}
 use Rattle.machine.specs.Turn.{present}
-use Rattle.machine.specs.Calls.{TurnPromise}
-use Rattle.machine.specs.Accesses.{found, withReg, moved}
+use Rattle.machine.specs.Calls.{found, moved, TurnPromise}
 use Rattle.machine.specs.declared.Record.{Record}
 use Rattle.machine.specs.declared.Turned.{Turned}
 

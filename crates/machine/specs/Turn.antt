@@ -12,7 +12,7 @@ use Rattle.step.specs.declared.Direction.the-variants.{Forward, Back}
 use Rattle.step.specs.declared.Status.{Status}
 use Rattle.step.specs.declared.Attempt.{Attempt}
 use Rattle.step.specs.declared.Attempt.the-variants.{Refused, Does}
-use Rattle.step.specs.View.{View, reg, seen, nodes}
+use Rattle.step.specs.View.{View, reg, withReg, seen, nodes}
 use Rattle.step.specs.Sizes.{badSizes}
 use Rattle.step.specs.Step.{shifted, performed, refuse, isReady, attempt}
 
@@ -25,7 +25,7 @@ abbrev pub br : View → ℕ
 br s = reg s 1
 
 abbrev pub atPc : View → ℕ → View
-atPc s i = record { at = s .at; regs = set (s .regs) 0 i; memory = s .memory }
+atPc s i = withReg s 0 i
 
 -- by 1 if br is 0, else by br
 abbrev pub stride : ℕ → ℕ

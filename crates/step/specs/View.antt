@@ -2,7 +2,7 @@
 use Prim.Native.Nat.{ℕ, _^_, _<_}
 use mathlib.Core.Path.{_≡_}
 use mathlib.Core.List.{List}
-use lib.ListN.{length, getD, take}
+use lib.ListN.{length, getD, set, take}
 use Rattle.step.specs.Table.{tableWords}
 use Rattle.step.specs.declared.Status.{Status}
 use Rattle.step.specs.declared.Direction.{Direction}
@@ -16,6 +16,10 @@ pub record View : Type 0 where
 -- register a, 0 where there is none
 abbrev pub reg : View → ℕ → ℕ
 reg s a = getD (s .regs) a 0
+
+-- the view with another word in register a
+abbrev pub withReg : View → ℕ → ℕ → View
+withReg s a v = record { at = s .at; regs = set (s .regs) a v; memory = s .memory }
 
 -- the status with another node and wait count
 abbrev pub withNode : Status → ℕ → ℕ → Status

@@ -5,11 +5,13 @@ use mathlib.Core.Bool.{Bool, true, false, true≢false}
 use native.Mathlib.Nat.{div-eq-of-lt-le}
 use native.Mathlib.Omega.{arith}
 use lib.Dec.{ltb}
-use lib.IntN.{ℤ, pos, negsuc}
+use lib.IntN.{ℤ, pos, negsuc, _+ℤ_}
 use lib.Signed.{mag, ltZ, nonNeg}
 use borrow.Author.Tests.{ltb-true, ltb-false, lt-ltb, le-ltb, ne-eqb}
+use mir.Syntax.{w32}
+use mir.Val.{toZ}
 use Rattle.word.specs.Word.{addWord, signed, isLess}
-use Rattle.word.specs.Claims.{lack, SignedWords, Divides}
+use Rattle.word.specs.Claims.{wrap, SignedWords, Divides}
 
 -- two tests that mean the same
 same : (a b c d : ℕ) → (a < b → c < d) → (b ≤ a → d ≤ c) → ltb a b ≡ ltb c d
@@ -37,16 +39,30 @@ less-is : (a b : ℕ) {y z : ℤ} → signed a ≡ y → signed b ≡ z → isLe
 unfolding isLess
 less-is a b e g = ap₂ ltZ e g
 
-module _ (a b : ℕ) (f : a < 2 ^ 32) (g : b < 2 ^ 32) where
-  by-lack : Half a → Half b → isLess a b ≡ ltb (a + lack b) (b + lack a)
-  by-lack (lower h e) (lower k i) = less-is a b e i ∙ same a b (a + lack b) (b + lack a) (λ l. omega arith) (λ l. omega arith)
-  by-lack (lower h e) (upper k i) = less-is a b e i ∙ sym (le-ltb (a + lack b) (b + lack a) (omega arith))
-  by-lack (upper h e) (lower k i) = less-is a b e i ∙ sym (lt-ltb (a + lack b) (b + lack a) (omega arith))
-  by-lack (upper h e) (upper k i) = less-is a b e i ∙ same (2 ^ 32 - suc b) (2 ^ 32 - suc a) (a + lack b) (b + lack a) (λ l. omega arith) (λ l. omega arith)
+module _ (a : ℕ) (f : a < 2 ^ 32) where
+  value-is : Half a → signed a +ℤ pos (wrap a) ≡ pos a
+  value-is (lower h e) = ap (λ (z : ℤ). z +ℤ pos (wrap a)) e ∙ ap pos (omega arith)
+  value-is (upper h e) =
+      ap (λ (z : ℤ). z +ℤ pos (wrap a)) e
+      ∙ rw (le-ltb (wrap a) (suc (2 ^ 32 - suc a)) (omega arith)) (ap pos (omega arith))
 
-  by-flip : ltb (a + lack b) (b + lack a) ≡ ltb (addWord a (2 ^ 31)) (addWord b (2 ^ 31))
+  bits-are : signed a ≡ toZ w32 a
+  bits-are = go (half a f)
+    where
+      go : Half a → signed a ≡ toZ w32 a
+      go (lower h e) = e ∙ rw (lt-ltb a (2 ^ 31) h)
+      go (upper h e) = e ∙ rw (le-ltb a (2 ^ 31) h)
+
+module _ (a b : ℕ) (f : a < 2 ^ 32) (g : b < 2 ^ 32) where
+  by-wrap : Half a → Half b → isLess a b ≡ ltb (a + wrap b) (b + wrap a)
+  by-wrap (lower h e) (lower k i) = less-is a b e i ∙ same a b (a + wrap b) (b + wrap a) (λ l. omega arith) (λ l. omega arith)
+  by-wrap (lower h e) (upper k i) = less-is a b e i ∙ sym (le-ltb (a + wrap b) (b + wrap a) (omega arith))
+  by-wrap (upper h e) (lower k i) = less-is a b e i ∙ sym (lt-ltb (a + wrap b) (b + wrap a) (omega arith))
+  by-wrap (upper h e) (upper k i) = less-is a b e i ∙ same (2 ^ 32 - suc b) (2 ^ 32 - suc a) (a + wrap b) (b + wrap a) (λ l. omega arith) (λ l. omega arith)
+
+  by-flip : ltb (a + wrap b) (b + wrap a) ≡ ltb (addWord a (2 ^ 31)) (addWord b (2 ^ 31))
   unfolding addWord
-  by-flip = same (a + lack b) (b + lack a) ((a + 2 ^ 31) % 2 ^ 32) ((b + 2 ^ 31) % 2 ^ 32) (λ l. omega arith) (λ l. omega arith)
+  by-flip = same (a + wrap b) (b + wrap a) ((a + 2 ^ 31) % 2 ^ 32) ((b + 2 ^ 31) % 2 ^ 32) (λ l. omega arith) (λ l. omega arith)
 
   by-value : Half a → Half b → signed a ≡ signed b → a ≡ b
   by-value (lower h e) (lower k i) z = ap mag (sym e ∙ z ∙ i)
@@ -56,8 +72,10 @@ module _ (a b : ℕ) (f : a < 2 ^ 32) (g : b < 2 ^ 32) where
 
 pub signed-words : SignedWords
 signed-words a b f g =
-    let e = by-lack a b f g (half a f) (half b g) in
+    let e = by-wrap a b f g (half a f) (half b g) in
     record {
+      value = value-is a f (half a f);
+      bits = bits-are a f;
       less = (λ h. ltb-true _ _ (sym e ∙ h), λ l. e ∙ lt-ltb _ _ l);
       flipped = e ∙ by-flip a b f g;
       equal = by-value a b f g (half a f) (half b g);

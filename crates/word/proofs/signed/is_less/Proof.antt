@@ -1,4 +1,4 @@
-use mathlib.Core.Path.{sym, _∙_}
+use mathlib.Core.Path.{sym}
 use borrow.Author.Needs.{needs}
 use Rattle.word.proofs.Less.{signed-words}
 use Rattle.word.proofs.signed.is_less.Statement.{statement}
