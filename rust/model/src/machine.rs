@@ -93,7 +93,10 @@ fn effect(ins: Instruction, g: &mut [u32; 16], cell: &mut u32) {
             g[a as usize] ^= g[b as usize].checked_div(g[c as usize]).unwrap_or(0)
         }
         AribEqual { a, b, c } => g[a as usize] ^= u32::from(g[b as usize] == g[c as usize]),
-        AribLess { a, b, c } => g[a as usize] ^= u32::from(g[b as usize] < g[c as usize]),
+        // Signed, two's complement (document 02, #108); quotient and equal are unsigned.
+        AribLess { a, b, c } => {
+            g[a as usize] ^= u32::from((g[b as usize] as i32) < g[c as usize] as i32)
+        }
     }
 }
 
