@@ -11,14 +11,9 @@ mod sums;
 mod words;
 
 use crank_model::machine::Record;
-use crank_model::preview::{self, Preview, PreviewCall};
+use crank_model::preview::Preview;
 use crank_model::state::{Machine, Way, WAYS};
-use proved::TURNS;
-
-const PREVIEWS: [(&str, [PreviewCall; 2]); 2] = [
-    ("model", [preview::forward, preview::back]),
-    ("library", [proved::preview_forward, proved::preview_back]),
-];
+use proved::{PREVIEWS, TURNS};
 
 /// The address of the instruction in every machine here, and what r1 is before.
 const AT: u32 = 1;

@@ -1,7 +1,6 @@
 //! A long run over a constant that stands behind the finish, forward and back.
 
-use super::proved::{BATCHES, TURNS};
-use super::PREVIEWS;
+use super::proved::{BATCHES, PREVIEWS, TURNS};
 use crank_model::machine::Record;
 use crank_model::state::{Machine, Way};
 

@@ -14,14 +14,7 @@ mod waits;
 use crank_model::instruction::{word_i, BR, PC};
 use crank_model::machine::Record;
 use crank_model::state::Machine;
-use crank_model::wheel::{self, SampleCall};
-use proved::{BATCHES, TURNS};
-
-const SAMPLES: [(&str, SampleCall); 3] = [
-    ("model", wheel::samples),
-    ("library", proved::samples),
-    ("bench", proved::bench::samples),
-];
+use proved::{BATCHES, SAMPLES, TURNS};
 
 /// Two branches that jump to each other, so that no turn either way ends it:
 /// after every other turn only the position is another.

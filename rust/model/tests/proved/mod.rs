@@ -3,9 +3,9 @@
 
 use crank::calls;
 use crank_model::machine::{self, Batch, Record};
-use crank_model::preview::Preview;
+use crank_model::preview::{self, Preview, PreviewCall};
 use crank_model::state::{BatchCall, Turn};
-use crank_model::wheel::Wheeled;
+use crank_model::wheel::{self, SampleCall, Wheeled};
 
 /// Single turns forward and back, by who makes them; the last as the previews
 /// show them.
@@ -21,6 +21,19 @@ pub const BATCHES: [(&str, [BatchCall; 2]); 3] = [
     ("model", [machine::forward_batch, machine::back_batch]),
     ("library", [forward_batch, back_batch]),
     ("bench", [bench::forward_batch, bench::back_batch]),
+];
+
+/// Sample calls, likewise.
+pub const SAMPLES: [(&str, SampleCall); 3] = [
+    ("model", wheel::samples),
+    ("library", samples),
+    ("bench", bench::samples),
+];
+
+/// Previews, forward and back.
+pub const PREVIEWS: [(&str, [PreviewCall; 2]); 2] = [
+    ("model", [preview::forward, preview::back]),
+    ("library", [preview_forward, preview_back]),
 ];
 
 fn given(r: Record) -> crank::Record {
