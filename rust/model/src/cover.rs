@@ -1,6 +1,6 @@
 //! Counts of what a test reached, and of what it has missed.
 
-use crate::instruction::{decode, opcode, para, Access, BR, FINISH, KINDS, PC, START};
+use crate::instruction::{decode, opcode, para, Access, Instruction, BR, FINISH, KINDS, PC, START};
 use crate::machine::{step, Record};
 use crate::nodes::depth;
 use crate::state::{Machine, Way, WAYS};
@@ -112,11 +112,18 @@ pub fn word_at(r: &Record, mem: &[u32], way: Way) -> Option<u32> {
     mem.get(own_pc(r, way) as usize).copied()
 }
 
-/// The access of that word to memory, if it has one.
-pub fn access_at(r: &Record, mem: &[u32], way: Way) -> Option<Access> {
+/// The instruction that this word is, and the registers as it reads them.
+fn instruction_at(r: &Record, mem: &[u32], way: Way) -> Option<(Instruction, [u32; 16])> {
     let mut regs = r.regs;
     regs[PC] = own_pc(r, way);
-    word_at(r, mem, way).and_then(decode)?.access(&regs)
+    let ins = word_at(r, mem, way).and_then(decode)?;
+    Some((ins, regs))
+}
+
+/// The access of that word to memory, if it has one.
+pub fn access_at(r: &Record, mem: &[u32], way: Way) -> Option<Access> {
+    let (ins, regs) = instruction_at(r, mem, way)?;
+    ins.access(&regs)
 }
 
 /// Where an address is from M: 0 below, 1 at, 2 above.
@@ -141,6 +148,26 @@ fn refusal_index(refusal: u32, r: &Record, word: Option<u32>, access: Option<Acc
         10 => 0,
         _ => panic!("{refusal} is no refusal of a turn"),
     }
+}
+
+/// Which of EVENTS an accepted turn comes by; `old` is the record before it.
+fn event_kinds(way: Way, old: &Record, machine: &Machine) -> [bool; EVENTS.len()] {
+    let after = &machine.record;
+    let (waited, waits) = (old.qifw > 0, after.qifw > 0);
+    let (from, to) = (old.position, after.position);
+    let inner = || depth(&machine.table, after.n, after.qifv).is_some_and(|d| d > 1);
+    let is_qif = instruction_at(old, &machine.mem, way).is_some_and(|(ins, _)| ins.is_qif());
+    [
+        !waited && waits,
+        waited && waits,
+        waited && !waits,
+        is_qif && inner(),
+        after.regs[BR] != 0,
+        to == way.last_position(),
+        from == way.reverse().last_position(),
+        from < 0,
+        from >> 32 != to >> 32,
+    ]
 }
 
 /// Which of COPIES an accepted turn is, where it copies from this address; `old`
@@ -170,6 +197,13 @@ fn copy_kinds(way: Way, old: &Record, mem: &[u32], address: u32) -> [bool; COPIE
     ]
 }
 
+/// Counts what was met.
+fn add<const N: usize>(times: &mut [u64; N], met: [bool; N]) {
+    for (times, met) in times.iter_mut().zip(met) {
+        *times += u64::from(met);
+    }
+}
+
 fn kind_index(word: u32) -> Option<usize> {
     let own_para = if opcode(word) >= 32 { para(word) } else { 0 };
     KINDS
@@ -183,7 +217,6 @@ impl Cover {
     pub fn turn(&mut self, way: Way, old: &Record, refusal: u32, machine: &Machine) {
         let word = word_at(old, &machine.mem, way);
         let access = access_at(old, &machine.mem, way);
-        let after = &machine.record;
         let counts = &mut self.turns[way as usize];
         if refusal != 0 {
             counts.refused[refusal_index(refusal, old, word, access)] += 1;
@@ -193,25 +226,12 @@ impl Cover {
             return;
         };
         counts.accepted[kind] += 1;
-        let (waited, waits) = (old.qifw > 0, after.qifw > 0);
-        counts.events[0] += u64::from(!waited && waits);
-        counts.events[1] += u64::from(waited && waits);
-        counts.events[2] += u64::from(waited && !waits);
-        counts.events[4] += u64::from(after.regs[BR] != 0);
-        let (from, to) = (old.position, after.position);
-        counts.events[5] += u64::from(to == way.last_position());
-        counts.events[6] += u64::from(from == way.reverse().last_position());
-        counts.events[7] += u64::from(from < 0);
-        counts.events[8] += u64::from(from >> 32 != to >> 32);
-        if KINDS[kind].0 == 24 {
-            let inner = depth(&machine.table, after.n, after.qifv);
-            counts.events[3] += u64::from(inner.is_some_and(|d| d > 1));
-        }
+        add(&mut counts.events, event_kinds(way, old, machine));
         if let Some(Access::Copy(address)) = access {
-            let kinds = copy_kinds(way, old, &machine.mem, address);
-            for (times, met) in counts.copies.iter_mut().zip(kinds) {
-                *times += u64::from(met);
-            }
+            add(
+                &mut counts.copies,
+                copy_kinds(way, old, &machine.mem, address),
+            );
         }
     }
 
