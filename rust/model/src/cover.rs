@@ -1,6 +1,7 @@
 //! Counts of what a test reached, and of what it has missed.
 
-use crate::instruction::{decode, opcode, para, Access, Instruction, BR, FINISH, KINDS, PC, START};
+use crate::instruction::Instruction::{self, AribLess};
+use crate::instruction::{decode, opcode, para, Access, BR, FINISH, KINDS, PC, START};
 use crate::machine::{step, Record};
 use crate::nodes::depth;
 use crate::state::{Machine, Way, WAYS};
@@ -46,8 +47,9 @@ fn reachable(way: Way, name: &str) -> bool {
     !never.contains(&name) && !good.contains(&name)
 }
 
-/// What accepted turns come by; the last four are about the position.
-const EVENTS: [&str; 9] = [
+/// What accepted turns come by; four are about the position, and the last three
+/// about the signs of what a less compares.
+const EVENTS: [&str; 12] = [
     "wait entered",
     "wait continued",
     "wait ended",
@@ -57,6 +59,9 @@ const EVENTS: [&str; 9] = [
     "from the first position",
     "from below 0",
     "high word changed",
+    "less, reg2 alone negative",
+    "less, reg3 alone negative",
+    "less, both negative",
 ];
 
 /// What accepted copies read, and how they come to the address.
@@ -156,7 +161,13 @@ fn event_kinds(way: Way, old: &Record, machine: &Machine) -> [bool; EVENTS.len()
     let (waited, waits) = (old.qifw > 0, after.qifw > 0);
     let (from, to) = (old.position, after.position);
     let inner = || depth(&machine.table, after.n, after.qifv).is_some_and(|d| d > 1);
-    let is_qif = instruction_at(old, &machine.mem, way).is_some_and(|(ins, _)| ins.is_qif());
+    let at = instruction_at(old, &machine.mem, way);
+    let is_qif = at.is_some_and(|(ins, _)| ins.is_qif());
+    // Whether reg2 and reg3 of a less are negative.
+    let [reg2, reg3] = match at {
+        Some((AribLess { b, c, .. }, regs)) => [b, c].map(|reg| regs[usize::from(reg)] >> 31 == 1),
+        _ => [false; 2],
+    };
     [
         !waited && waits,
         waited && waits,
@@ -167,6 +178,9 @@ fn event_kinds(way: Way, old: &Record, machine: &Machine) -> [bool; EVENTS.len()
         from == way.reverse().last_position(),
         from < 0,
         from >> 32 != to >> 32,
+        reg2 && !reg3,
+        !reg2 && reg3,
+        reg2 && reg3,
     ]
 }
 

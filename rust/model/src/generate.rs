@@ -126,18 +126,18 @@ fn aim_fiq(rng: &mut Rng, machine: &mut Machine, coin: usize, way: Way) {
     };
 }
 
-/// Sets the register that an ldr or fetr has its address in, unless it is pc.
-fn aim_access(machine: &mut Machine, reg: usize, address: u32) {
-    if reg != PC {
-        machine.record.regs[reg] = address;
+/// Sets a register that a word reads, unless it is pc.
+fn aim_source(machine: &mut Machine, reg: u8, value: u32) {
+    if usize::from(reg) != PC {
+        machine.record.regs[usize::from(reg)] = value;
     }
 }
 
 /// Sets the address of the fetr at `at`, in many cases to that of a constant in
 /// the code.
-fn aim_copy(rng: &mut Rng, machine: &mut Machine, at: u32, reg: usize) {
+fn aim_copy(rng: &mut Rng, machine: &mut Machine, at: u32, reg: u8) {
     let address = address(rng, machine.record.k, machine.record.m);
-    aim_access(machine, reg, address);
+    aim_source(machine, reg, address);
     if address < machine.record.k && address != at && rng.chance(1, 2) {
         machine.mem[address as usize] = constant(rng);
     }
@@ -153,14 +153,19 @@ pub fn aim(rng: &mut Rng, machine: &mut Machine, way: Way) {
     machine.record.regs[BR] = if rng.chance(1, 3) { offset(rng) } else { 0 };
     match decode(word) {
         Some(Ldr { b, .. }) if m > k && rng.chance(3, 4) => {
-            aim_access(machine, b.into(), rng.between(k, m - 1));
+            aim_source(machine, b, rng.between(k, m - 1));
         }
-        Some(Ldr { b, .. }) => aim_access(machine, b.into(), address(rng, k, m)),
-        Some(Fetr { b, .. }) => aim_copy(rng, machine, at, b.into()),
+        Some(Ldr { b, .. }) => aim_source(machine, b, address(rng, k, m)),
+        Some(Fetr { b, .. }) => aim_copy(rng, machine, at, b),
         Some(Qif { a }) if rng.chance(1, 2) => aim_wait(rng, machine, a.into()),
         Some(Qif { a }) if way == Way::Forward => aim_qif(rng, machine, a.into()),
         Some(Qif { a }) => aim_child(rng, machine, a.into()),
         Some(Fiq { a }) => aim_fiq(rng, machine, a.into(), way),
+        // Most registers are small, so that they have the same order unsigned.
+        Some(AribLess { b, c, .. }) if rng.chance(1, 2) => {
+            aim_source(machine, b, rng.word());
+            aim_source(machine, c, rng.word());
+        }
         Some(Swbr { a }) if rng.chance(1, 2) => machine.record.regs[usize::from(a)] = offset(rng),
         _ => {}
     }

@@ -40,17 +40,21 @@ fn read_only(rng: &mut Rng) -> usize {
     rng.pick(&[PC, COUNT, END, 7, 8, 9, ADDRESS, CODE, ONE])
 }
 
-fn free_pair(rng: &mut Rng) -> (usize, usize) {
-    let a = rng.index(FREE.len());
-    let b = (a + 1 + rng.index(FREE.len() - 1)) % FREE.len();
-    (FREE[a], FREE[b])
+/// Three free registers.
+fn free_three(rng: &mut Rng) -> [usize; 3] {
+    let mut free = FREE;
+    for i in 0..3 {
+        free.swap(i, i + rng.index(FREE.len() - i));
+    }
+    [free[0], free[1], free[2]]
 }
 
 /// One word that changes only free registers and data.
 fn plain_word(rng: &mut Rng, data: &Data) -> u32 {
-    let (a, b) = free_pair(rng);
+    let [a, b, c] = free_three(rng);
     let from = if rng.chance(1, 2) { b } else { read_only(rng) };
-    let third = read_only(rng);
+    // What is read only is small and never negative to a less.
+    let third = if rng.chance(1, 2) { c } else { read_only(rng) };
     let imm = rng.word();
     match rng.below(17) {
         0..=2 if data.count == 0 => word_r(17, a, CODE),

@@ -57,7 +57,7 @@ fn damaged() {
 fn sizes() {
     let mut rng = Rng::new(73);
     let mut cover = Cover::default();
-    for _ in 0..rounds(300) {
+    for _ in 0..rounds(2_000) {
         let good = running(&mut rng, 100);
         for machine in wrong_sizes(&good) {
             for way in WAYS {
