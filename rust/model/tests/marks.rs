@@ -1,5 +1,5 @@
-//! The twelve bench marks, and those of a fetr (document 02, #106), on the model
-//! and on the library.
+//! The twelve bench marks, and those of a fetr and of signs (document 02, #106 and
+//! #108), on the model and on the library.
 
 mod proved;
 
@@ -113,6 +113,28 @@ fn i_division_by_zero(forward: Turn) {
     }
 }
 
+/// 4,294,967,295 is -1 to a less, and the largest word to equal and quotient. Each
+/// of these is undone.
+fn signs(forward: Turn, back: Turn) {
+    // The para, r2 and r3, and r1 from 6.
+    for (para, r2, r3, r1) in [
+        (5, 4_294_967_295, 0, 7),
+        (5, 0, 4_294_967_295, 6),
+        (4, 4_294_967_295, 1, 6),
+        (3, 4_294_967_295, 2, 6 ^ 2_147_483_647),
+    ] {
+        let mut start = one_word(0, word_o(35, para, R1, R2, R3));
+        start.record.regs[R1] = 6;
+        start.record.regs[R2] = r2;
+        start.record.regs[R3] = r3;
+        let mut m = start.clone();
+        assert_eq!(m.turn(forward), 0);
+        assert_eq!(m.record.regs[R1], r1, "arib {para} of {r2} and {r3}");
+        assert_eq!(m.turn(back), 0);
+        assert_eq!(m, start);
+    }
+}
+
 /// A qif from node 1 to node 2 (coin 0, w = 2) or 3 (coin 1, w = 0).
 fn qif_machine(coin: u32) -> Machine {
     let mut m = one_word(0, word_r(24, R1, 0));
@@ -169,9 +191,10 @@ fn marks(forward: Turn, back: Turn, is_instruction: fn(u32) -> bool) {
     h_data_addresses(forward, back);
     fetr_addresses(forward, back);
     i_division_by_zero(forward);
+    signs(forward, back);
     j_qif_waits(forward, back);
     k_l_refusals(forward, back);
-    println!("marks: (a) to (l), and a fetr at K-1 and M");
+    println!("marks: (a) to (l), a fetr at K-1 and M, and signs");
 }
 
 #[test]
