@@ -202,6 +202,45 @@ fn constant_in_code() {
     }
 }
 
+/// start; bnz r4,-4; subi r1,300; addi r4,1; arib less r3,r1,r2; bez r3,-4; finish:
+/// r1 falls until it is below r2, and r4 counts the rounds.
+#[test]
+fn length_below_zero() {
+    let Some(program) = program() else { return };
+    let mem = vec![
+        0x1A00_0000,
+        0x0770_FFFC,
+        0x0440_012C,
+        0x0370_0001,
+        0x2364_5500,
+        0x0660_FFFC,
+        0x1B00_0000,
+    ];
+    let record = Record {
+        k: 7,
+        m: 7,
+        ..Record::default()
+    };
+    let mut machine = Machine {
+        record,
+        mem,
+        table: Vec::new(),
+    };
+    machine.record.regs[4] = 1_000;
+    // To 0 it ends at -200, and to -500 at -800.
+    for (r2, turns, r1, r4) in [
+        (0, 21, 4_294_967_096u32, 4),
+        (4_294_966_796, 31, 4_294_966_496, 6),
+    ] {
+        machine.record.regs[5] = r2;
+        let registers = format!("6 0 0 0 {r1} {r2} 1 {r4} 0 0 0 0 0 0 0 0");
+        let text = format!("turns {turns} refusal 12\n{registers}\nnode 0 wait 0\n");
+        for kind in KINDS {
+            assert_eq!(compare(&program, &image_of(kind, &machine, &[])), text);
+        }
+    }
+}
+
 /// `pad` words, a loop of `rounds` with 4 turns each, and finish.
 fn counted_loop(rounds: u32, pad: usize) -> Machine {
     let mut mem = vec![START];
