@@ -1,12 +1,12 @@
 ; length - a length that runs below zero: pieces of 30 are cut off 100 until the
-; length is below 0; r4 = how much the last piece lacked.
+; length is below 0; r4 = what was missing for the last piece.
 ;
 ; arib lt compares both words as signed, two's complement. r1 runs over 100, 70,
 ; 40 and 10 to 4294967276, which is -20 and less than 0. Taken as it stands no word
 ; is less than 0, and the loop would not end. ro is 0 in the whole program.
 ;
-; In the loop r3 stays 0. It becomes 1 where the length is below 0, and the same
-; arib, behind the loop, makes it 0 again.
+; r3 stays 0 until the last comparison of the loop, which makes it 1; the same arib,
+; behind the loop, makes it 0 again.
 ;
 ; Turns: 2 before the loop, 4 rounds of 6, l0 to l1, and 3: 2 + 24 + 3 + 3 = 32.
 

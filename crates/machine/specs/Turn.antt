@@ -3,7 +3,7 @@ use Prim.Native.Nat.{ℕ}
 use mathlib.Core.Bool.{Bool, not, _&&_}
 use mathlib.Core.List.{List}
 use lib.Dec.{eqb, ltb}
-use lib.ListN.{getD, set}
+use lib.ListN.{getD}
 use Rattle.word.specs.Word.{pick}
 use Rattle.qins.specs.Op.{Op}
 use Rattle.qins.specs.Decode.{decode, startWord, finishWord}
