@@ -62,6 +62,10 @@ waiting before l = record { way = Forward; before = before; machine = at 0 0 1 0
 abbrev pub atSeven : ℕ → List ℕ
 atSeven w = 0 ∷ 0 ∷ 0 ∷ 0 ∷ 0 ∷ 0 ∷ 0 ∷ w ∷ 0 ∷ []
 
+-- the word w there takes r1 from 9 to v, with b in r2, and changes nothing else but pc
+abbrev pub gives : ℕ → ℕ → ℕ → Mark
+gives w b v = row Forward (at 7 0 9 b 0 9 9 0 (atSeven w)) (0 ∷ 8 ∷ 0 ∷ v ∷ b ∷ 0 ∷ 0 ∷ atSeven w)
+
 abbrev pub marks : List Mark
 marks =
     -- (a) 0x02400005 is xori r1,5
@@ -102,20 +106,26 @@ marks =
     ∷ row Forward (at 7 0 9 0 0 9 9 0 (atSeven 0x10400000)) (15 ∷ 7 ∷ 0 ∷ 9 ∷ 0 ∷ 0 ∷ 0 ∷ atSeven 0x10400000)
     -- (i) 7 divided by 0 gives 0, which leaves r1 as it is: arib(r1,r2,r3,3); by pc, 7, it gives 1: arib(r1,r2,pc,3)
     ∷ row Forward (at 0 0 9 7 0 1 1 0 (0x23456300 ∷ [])) (0 ∷ 1 ∷ 0 ∷ 9 ∷ 7 ∷ 0 ∷ 0 ∷ 0x23456300 ∷ [])
-    ∷ row Forward (at 7 0 9 7 0 9 9 0 (atSeven 0x23450300)) (0 ∷ 8 ∷ 0 ∷ 8 ∷ 7 ∷ 0 ∷ 0 ∷ atSeven 0x23450300)
-    -- and of document 02, #108: -1 is less than 0, arib(r1,r2,r3,5), and undone; 0 is not less than -1, arib(r1,r3,r2,5)
-    ∷ row Forward (at 0 0 9 4294967295 0 1 1 0 (0x23456500 ∷ [])) (0 ∷ 1 ∷ 0 ∷ 8 ∷ 4294967295 ∷ 0 ∷ 0 ∷ 0x23456500 ∷ [])
-    ∷ row Back (at 1 0 8 4294967295 0 1 1 0 (0x23456500 ∷ [])) (0 ∷ 0 ∷ 0 ∷ 9 ∷ 4294967295 ∷ 0 ∷ 0 ∷ 0x23456500 ∷ [])
-    ∷ row Forward (at 0 0 9 4294967295 0 1 1 0 (0x23465500 ∷ [])) (0 ∷ 1 ∷ 0 ∷ 9 ∷ 4294967295 ∷ 0 ∷ 0 ∷ 0x23465500 ∷ [])
-    -- 3 is less than 7 and 7 is not, arib(r1,r2,pc,5)
-    ∷ row Forward (at 7 0 9 3 0 9 9 0 (atSeven 0x23450500)) (0 ∷ 8 ∷ 0 ∷ 8 ∷ 3 ∷ 0 ∷ 0 ∷ atSeven 0x23450500)
-    ∷ row Forward (at 7 0 9 7 0 9 9 0 (atSeven 0x23450500)) (0 ∷ 8 ∷ 0 ∷ 9 ∷ 7 ∷ 0 ∷ 0 ∷ atSeven 0x23450500)
-    -- 7 equals 7 and 3 does not, arib(r1,r2,pc,4)
-    ∷ row Forward (at 7 0 9 7 0 9 9 0 (atSeven 0x23450400)) (0 ∷ 8 ∷ 0 ∷ 8 ∷ 7 ∷ 0 ∷ 0 ∷ atSeven 0x23450400)
-    ∷ row Forward (at 7 0 9 3 0 9 9 0 (atSeven 0x23450400)) (0 ∷ 8 ∷ 0 ∷ 9 ∷ 3 ∷ 0 ∷ 0 ∷ atSeven 0x23450400)
-    -- -1 does not equal 1, arib(r1,r2,pc,4); the largest word divided by 7 is 0x24924924, arib(r1,r2,pc,3)
+    ∷ gives 0x23450300 7 8
+    -- and of document 02, #108: -1 is less than 0, arib(r1,r2,r3,5), and undone
+    ∷ gives 0x23456500 4294967295 8
+    ∷ row Back (at 8 0 8 4294967295 0 9 9 0 (atSeven 0x23456500)) (0 ∷ 7 ∷ 0 ∷ 9 ∷ 4294967295 ∷ 0 ∷ 0 ∷ atSeven 0x23456500)
+    -- 0 is not less than -1, and less than 7, arib(r1,r3,r2,5); 3 is less than 7, and 7 is not, arib(r1,r2,pc,5)
+    ∷ gives 0x23465500 4294967295 9
+    ∷ gives 0x23465500 7 8
+    ∷ gives 0x23450500 3 8
+    ∷ gives 0x23450500 7 9
+    -- 0 equals 0, arib(r1,r2,r3,4), 7 equals 7 and 3 does not, arib(r1,r2,pc,4), nor does 0, arib(r1,r3,pc,4), and -1 does not equal 1
+    ∷ gives 0x23456400 0 8
+    ∷ gives 0x23450400 7 8
+    ∷ gives 0x23450400 3 9
+    ∷ gives 0x23460400 7 9
     ∷ row Forward (at 1 0 9 4294967295 0 2 2 0 (0 ∷ 0x23450400 ∷ [])) (0 ∷ 2 ∷ 0 ∷ 9 ∷ 4294967295 ∷ 0 ∷ 0 ∷ 0 ∷ 0x23450400 ∷ [])
-    ∷ row Forward (at 7 0 9 4294967295 0 9 9 0 (atSeven 0x23450300)) (0 ∷ 8 ∷ 0 ∷ 0x2492492D ∷ 4294967295 ∷ 0 ∷ 0 ∷ atSeven 0x23450300)
+    -- 7 divided by 0, arib(r1,r2,r3,3), 0 by 7, arib(r1,r3,r2,3), 7 by 7, arib(r1,pc,r2,3), and the largest word by 7, which gives 0x24924924
+    ∷ gives 0x23456300 7 9
+    ∷ gives 0x23465300 7 9
+    ∷ gives 0x23405300 7 8
+    ∷ gives 0x23450300 4294967295 0x2492492D
     -- (j) qif into w = 2 takes three turns
     ∷ waiting 0 (0 ∷ 0 ∷ 0 ∷ 1 ∷ 0 ∷ 2 ∷ 2 ∷ 0x18400000 ∷ [])
     ∷ waiting 1 (0 ∷ 0 ∷ 0 ∷ 1 ∷ 0 ∷ 2 ∷ 1 ∷ 0x18400000 ∷ [])

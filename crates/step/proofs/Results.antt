@@ -5,7 +5,7 @@ use Prim.Native.Nat.{ℕ}
 use lib.Bits.{bitXor}
 use borrow.Author.Tests.{eq-eqb, ne-eqb}
 use Rattle.word.specs.Word.{pick}
-use Rattle.word.proofs.Less.{signed-words, divides}
+use Rattle.word.proofs.Less.{compared-words, divides}
 use Rattle.qins.specs.Op.{Source}
 use Rattle.step.specs.View.{View, Words, reg}
 use Rattle.step.specs.Step.{value, whenReady, attempt}
@@ -24,12 +24,12 @@ flag t = pick t 1 0
 -- the value of the source
 value-is : (s : View) → Words (s .regs) → (v : Source) (x : ℕ) → Result s v x → value v (s .regs) ≡ x
 unfolding value
-value-is s f v x (quotient b c q l h) = divides (reg s b) (reg s c) q l h
+value-is s f v x (quotient b c q g) = divides (reg s b) (reg s c) q g
 value-is s f v x (by-zero b c z) = rw (eq-eqb (reg s c) 0 z)
 value-is s f v x (equal b c e) = ap flag (eq-eqb (reg s b) (reg s c) e)
 value-is s f v x (unequal b c n) = ap flag (ne-eqb (reg s b) (reg s c) n)
-value-is s f v x (less b c l) = ap flag (signed-words (reg s b) (reg s c) (f b) (f c) .less .1 l)
-value-is s f v x (not-less b c n) = ap flag (not-true-is _ (λ h. n (signed-words (reg s b) (reg s c) (f b) (f c) .less .0 h)))
+value-is s f v x (less b c l) = ap flag (compared-words (reg s b) (reg s c) (f b) (f c) .less .1 l)
+value-is s f v x (not-less b c n) = ap flag (not-true-is _ (λ h. n (compared-words (reg s b) (reg s c) (f b) (f c) .less .0 h)))
 
 pub results : Results
 unfolding attempt

@@ -1,12 +1,12 @@
 -- What is claimed of single operations, over the attempt that the contract of operation::attempt cites: of an address by the kind
 -- of access (document 01, 15; document 02, #106), and of arib's quotient, equal and less (document 01, "Effects"; document 02, #108).
 -- Proved in proofs/Addresses and proofs/Results.
-use Prim.Native.Nat.{ℕ, _+_, _*_, _<_, _≤_}
+use Prim.Native.Nat.{ℕ, _<_, _≤_}
 use mathlib.Core.Path.{_≡_}
 use mathlib.Core.Logic.{_≢_, _↔_}
 use mathlib.Core.List.{List}
 use lib.Bits.{bitXor}
-use Rattle.word.specs.Claims.{Below}
+use Rattle.word.specs.Claims.{Below, IsQuotient}
 use Rattle.qins.specs.Op.{Op, Source}
 use Rattle.qins.specs.Op.Op.{Xor, Fetch, Exchange}
 use Rattle.qins.specs.Op.Source.{Quotient, Equal, Less}
@@ -44,7 +44,7 @@ Addresses =
 
 -- what each is, in a view: quotient and equal by the words as they stand, less by their signed values
 pub data Result (s : View) : Source → ℕ → Type 0 where
-  quotient : (b c q : ℕ) → q * reg s c ≤ reg s b → reg s b < (q + 1) * reg s c → Result s (Quotient b c) q
+  quotient : (b c q : ℕ) → IsQuotient (reg s b) (reg s c) q → Result s (Quotient b c) q
   by-zero : (b c : ℕ) → reg s c ≡ 0 → Result s (Quotient b c) 0
   equal : (b c : ℕ) → reg s b ≡ reg s c → Result s (Equal b c) 1
   unequal : (b c : ℕ) → reg s b ≢ reg s c → Result s (Equal b c) 0

@@ -11,7 +11,7 @@ use borrow.Author.Tests.{ltb-true, ltb-false, lt-ltb, le-ltb, ne-eqb}
 use mir.Syntax.{w32}
 use mir.Val.{toZ}
 use Rattle.word.specs.Word.{addWord, signed, isLess}
-use Rattle.word.specs.Claims.{wrap, SignedWords, Divides}
+use Rattle.word.specs.Claims.{wrap, SignedWords, ComparedWords, Divides}
 
 -- two tests that mean the same
 same : (a b c d : ℕ) → (a < b → c < d) → (b ≤ a → d ≤ c) → ltb a b ≡ ltb c d
@@ -71,18 +71,19 @@ module _ (a b : ℕ) (f : a < 2 ^ 32) (g : b < 2 ^ 32) where
   by-value (upper h e) (upper k i) z = let n = ap mag (sym e ∙ z ∙ i) in omega arith
 
 pub signed-words : SignedWords
-signed-words a b f g =
+signed-words a f = record { value = value-is a f (half a f); bits = bits-are a f }
+
+pub compared-words : ComparedWords
+compared-words a b f g =
     let e = by-wrap a b f g (half a f) (half b g) in
     record {
-      value = value-is a f (half a f);
-      bits = bits-are a f;
       less = (λ h. ltb-true _ _ (sym e ∙ h), λ l. e ∙ lt-ltb _ _ l);
       flipped = e ∙ by-flip a b f g;
       equal = by-value a b f g (half a f) (half b g);
     }
 
 pub divides : Divides
-divides a b q l h = rw (ne-eqb b 0 (λ z. none (ap (λ (n : ℕ). (q + 1) * n) z))) (div-eq-of-lt-le b l h)
+divides a b q g = rw (ne-eqb b 0 (λ z. none (ap (λ (n : ℕ). (q + 1) * n) z))) (div-eq-of-lt-le b (g .0) (g .1))
   where
     none : (q + 1) * b ≡ (q + 1) * 0 → ⊥
-    none z = omega (arith, h, z)
+    none z = omega (arith, g .1, z)

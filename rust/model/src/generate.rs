@@ -161,7 +161,7 @@ pub fn aim(rng: &mut Rng, machine: &mut Machine, way: Way) {
         Some(Qif { a }) if way == Way::Forward => aim_qif(rng, machine, a.into()),
         Some(Qif { a }) => aim_child(rng, machine, a.into()),
         Some(Fiq { a }) => aim_fiq(rng, machine, a.into(), way),
-        // Most registers are small, so that they have the same order unsigned.
+        // Most registers are small, so they have the same order unsigned.
         Some(AribLess { b, c, .. }) if rng.chance(1, 2) => {
             aim_source(machine, b, rng.word());
             aim_source(machine, c, rng.word());

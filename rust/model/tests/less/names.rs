@@ -34,9 +34,53 @@ fn at_word(rng: &mut Rng, word: u32) -> Machine {
     }
 }
 
+/// The words in reg2 and reg3: any, with one alone below 0, or the same.
+#[derive(Clone, Copy)]
+enum Pair {
+    Any,
+    FirstBelow,
+    SecondBelow,
+    Same,
+}
+
+const PAIRS: [Pair; 4] = [Pair::Any, Pair::FirstBelow, Pair::SecondBelow, Pair::Same];
+
+const TOP: u32 = 1 << 31;
+
+/// Makes reg2 and reg3 such a pair; pc, which is never below 0, stays.
+fn make_pair(regs: &mut [u32; 16], pair: Pair, b: usize, c: usize) {
+    match pair {
+        Pair::Any => {}
+        Pair::FirstBelow if b != PC => (regs[b], regs[c]) = (regs[b] | TOP, regs[c] & !TOP),
+        Pair::SecondBelow if c != PC => (regs[b], regs[c]) = (regs[b] & !TOP, regs[c] | TOP),
+        Pair::FirstBelow => regs[c] |= TOP,
+        Pair::SecondBelow => regs[b] |= TOP,
+        Pair::Same if c != PC => regs[c] = regs[b],
+        Pair::Same => regs[b] = regs[c],
+    }
+}
+
 fn behind(mut machine: Machine) -> Machine {
     machine.record.regs[PC] = AT + 1;
     machine
+}
+
+/// The word that is an instruction, with each pair; gives how many answers.
+fn with_pairs(rng: &mut Rng, para: u32, [a, b, c]: [usize; 3], signs: &mut Signs) -> usize {
+    let mut answers = 0;
+    for pair in PAIRS {
+        let mut before = at_word(rng, word_o(35, para, a, b, c));
+        make_pair(&mut before.record.regs, pair, b, c);
+        let [reg2, reg3] = [b, c].map(|reg| before.record.regs[reg]);
+        let mut after = behind(before.clone());
+        after.record.regs[a] ^= answer(para, reg2, reg3);
+        after.record.position = 1;
+        answers += there_and_back(&[before, after]);
+        if para == LESS {
+            signs.count(reg2, reg3);
+        }
+    }
+    answers
 }
 
 #[test]
@@ -47,25 +91,20 @@ fn all_registers() {
     for name in 0..PARAS.len() * 16 * 16 * 16 {
         let [a, b, c] = [name >> 8, name >> 4, name].map(|reg| reg & 15);
         let para = PARAS[name >> 12];
-        let before = at_word(&mut rng, word_o(35, para, a, b, c));
-        let mut after = behind(before.clone());
-        if !allowed(a, b, c) {
-            refusals += 1;
-            answers += refused(Way::Forward, &before, 13);
-            answers += refused(Way::Back, &after, 13);
+        if allowed(a, b, c) {
+            done += 1;
+            answers += with_pairs(&mut rng, para, [a, b, c], &mut signs);
             continue;
         }
-        let [reg2, reg3] = [b, c].map(|reg| before.record.regs[reg]);
-        after.record.regs[a] ^= answer(para, reg2, reg3);
-        after.record.position = 1;
-        done += 1;
-        answers += there_and_back(&[before, after]);
-        if para == LESS {
-            signs.count(reg2, reg3);
-        }
+        refusals += 1;
+        let before = at_word(&mut rng, word_o(35, para, a, b, c));
+        answers += refused(Way::Forward, &before, 13);
+        answers += refused(Way::Back, &behind(before), 13);
     }
     println!("names: {done} done, {refusals} refused, {answers} answers, {signs:?}");
     assert_eq!((done, refusals), (3 * 14 * 14 * 13, 3 * 4_096 - 7_644));
-    assert_eq!(answers, (done + refusals) * 24);
+    assert_eq!(answers, (PAIRS.len() * done + refusals) * 24);
+    // Two of the pairs of each less have one word alone below 0.
+    assert!(signs.apart() >= 2 * (done / 3) as u64);
     signs.demand();
 }
