@@ -79,6 +79,18 @@ pub struct Checked {
     pub place: u32,
 }
 
+/// What the making of a qif table answers.
+#[repr(C)]
+#[derive(Clone, Copy, Debug, PartialEq, Eq)]
+pub struct Made {
+    pub refusal: u32,
+    /// The cycles of a walk over the table from start to finish, waits too, the same for every choice
+    /// of coins; refused, 0.
+    pub cycles: u32,
+    /// The record given with the new N and node 1; refused, the record given.
+    pub state: Record,
+}
+
 /// The lesson bench: a record that its calls alter.
 #[repr(C)]
 #[derive(Clone, Copy, Debug, PartialEq, Eq)]
@@ -114,6 +126,7 @@ const _: () = assert!(size_of::<Loaded>() == 104 && offset_of!(Loaded, state) ==
 const _: () = assert!(size_of::<Preview>() == 112);
 const _: () = assert!(size_of::<Batch>() == 104 && size_of::<Bench>() == 96);
 const _: () = assert!(size_of::<Checked>() == 8 && size_of::<Cranked>() == 8);
+const _: () = assert!(size_of::<Made>() == 104 && offset_of!(Made, state) == 8);
 const _: () = assert!(size_of::<Wheeled>() == 128 && size_of::<Sampled>() == 32);
 
 extern "C" {
@@ -245,6 +258,16 @@ extern "C" {
         table: *const u32,
         table_len: usize,
     ) -> u32;
+    fn crank_make_table(
+        r: Record,
+        limit: u32,
+        mem: *mut u32,
+        mem_len: usize,
+        table: *mut u32,
+        table_len: usize,
+        scratch: *mut u32,
+        scratch_len: usize,
+    ) -> Made;
 }
 
 /// Whether the word is an instruction.
@@ -387,6 +410,33 @@ pub fn check_node(r: Record, node: u32, mem: &[u32], table: &[u32]) -> u32 {
             mem.len(),
             table.as_ptr(),
             table.len(),
+        )
+    }
+}
+
+/// Makes the qif table of the code, walking it from start to finish through both branches of every
+/// qif, uni and unib idle, in at most `limit` cycles; writes it to the first 4,599 words of `table`,
+/// zeros behind its nodes. `mem` ends as it began. `scratch` is 16 M words or more, and what it then
+/// holds is free. Refusals: 10 and 22, after which nothing is written; those of a turn, 23 and 24, after
+/// which the 4,599 words are zeros.
+pub fn make_table(
+    r: Record,
+    limit: u32,
+    mem: &mut [u32],
+    table: &mut [u32],
+    scratch: &mut [u32],
+) -> Made {
+    // SAFETY: pointers and lengths come from live slices.
+    unsafe {
+        crank_make_table(
+            r,
+            limit,
+            mem.as_mut_ptr(),
+            mem.len(),
+            table.as_mut_ptr(),
+            table.len(),
+            scratch.as_mut_ptr(),
+            scratch.len(),
         )
     }
 }

@@ -3,6 +3,9 @@
 use crate::calls::{self, Batch, Checked, Preview, Sampled};
 use crate::{image_length, Kind, Record, MAX_IMAGE, MAX_NODES, MAX_WORDS, NODE_WORDS};
 
+/// The words of scratch that the making of a table asks for, times M.
+const SCRATCH: usize = 16;
+
 /// The direction of a turn.
 #[derive(Clone, Copy, Debug, PartialEq, Eq)]
 pub enum Direction {
@@ -190,6 +193,27 @@ impl Machine {
     /// Looks at the code words and at the links of the table.
     pub fn check(&self) -> Checked {
         calls::check(self.record, &self.mem, &self.table)
+    }
+
+    /// Makes the qif table of the code, which must have none yet, with at most `limit` cycles walked, and
+    /// stands at its node 1. Gives the cycles from start to finish over the new table, the same for every
+    /// choice of coins. The registers may be anything, but pc must be at start.
+    ///
+    /// # Errors
+    ///
+    /// The refusal: 10, 22, 23, 24 or that of a turn. The machine is then as it was.
+    pub fn make_table(&mut self, limit: u32) -> Result<u32, u32> {
+        let mut table = self.table.clone();
+        table.resize(table.len().max(NODE_WORDS * MAX_NODES), 0);
+        let mut scratch = vec![0; SCRATCH * self.mem.len()];
+        let made = calls::make_table(self.record, limit, &mut self.mem, &mut table, &mut scratch);
+        if made.refusal != 0 {
+            return Err(made.refusal);
+        }
+        table.truncate(NODE_WORDS * made.state.n as usize);
+        self.record = made.state;
+        self.table = table;
+        Ok(made.cycles)
     }
 
     /// Looks at the links of one node, whatever the code words are; gives the refusal.

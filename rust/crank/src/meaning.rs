@@ -9,6 +9,7 @@ pub enum Call {
     Load,
     Save,
     Check,
+    Make,
 }
 
 /// What a refusal means, as a part of a sentence.
@@ -28,6 +29,7 @@ pub fn meaning(refusal: u32, call: Call) -> &'static str {
         (11, Call::Back) => "no code word stands where a word would be undone",
         (11, _) => "pc is not at a code word",
         (12, Call::Back) => "pc is at start",
+        (12, Call::Make) => "a branch reaches finish",
         (12, _) => "pc is at finish",
         (13, Call::Back) => "the word to be undone is no instruction",
         (13, _) => "the word at pc is no instruction",
@@ -35,6 +37,7 @@ pub fn meaning(refusal: u32, call: Call) -> &'static str {
         (15, _) => "the address is not in K to M-1 (ld, ldr) or not below M (fetr)",
         (16, _) => "the coin is not 0 or 1",
         (17, Call::Check) => "the node is not 1 to N",
+        (17, Call::Make) => "a fiq stands in no branch",
         (17, _) => "a node is not 1 to N, or a link of the table does not return",
         (18, Call::Back) => "the word to be undone is finish",
         (18, _) => "the next word would be start",
@@ -42,6 +45,13 @@ pub fn meaning(refusal: u32, call: Call) -> &'static str {
         (20, _) => "the sample is above 3",
         (21, Call::Back) => "the position is the smallest",
         (21, _) => "the position is the largest",
+        (22, _) => {
+            "pc is not at start, a table is there, a wait is left, or the lent words are too few"
+        }
+        (23, _) => "more than 511 nodes, a nesting of 8 or the limit of cycles would be needed",
+        (24, _) => {
+            "the branches of a qif do not come together: another register, coin, state or memory"
+        }
         _ => "unknown",
     }
 }
