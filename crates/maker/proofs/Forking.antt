@@ -1,0 +1,278 @@
+-- The walk of a qif: what it answers at each way out. Assumes nothing.
+use mathlib.Core.Path.{_≡_, refl, sym, ap, ap₂, _∙_, subst}
+use mathlib.Core.Bool.{Bool, true, false, _&&_}
+use mathlib.Core.List.{List}
+use Prim.Native.Nat.{ℕ, zero, suc, _+_, _-_, _<_, _≤_, max}
+use native.Mathlib.Omega.{arith}
+use native.Mathlib.Numerals.{sub-one}
+use lib.Dec.{eqb, ltb, leb}
+use lib.ListN.{getD}
+use borrow.Author.Tests.{leb-false, ltb-false, eq-eqb}
+use Rattle.word.specs.Word.{pick}
+use Rattle.step.specs.View.{View}
+use Rattle.maker.proofs.Counts.{cycles-used, not-first}
+use Rattle.maker.proofs.Choices.{both-true}
+use Rattle.maker.specs.Walk.{Walk, size, used, cycles, ending, linked, drawn, forkSize, forkUsed, forkCycles, forkLinked, forkDrawn, lack}
+use Rattle.maker.specs.Making.{Outcome, Forks, unless, byOutcome, opening, closing, meeting, forkBy, forkAt, branchAt}
+use Rattle.maker.specs.Making.Outcome.{refused, ended}
+use Rattle.maker.specs.Making.Forks.{failed, forked}
+use Rattle.maker.specs.Idle.{machine, lands, sameWords, sameView}
+use Rattle.maker.specs.Parts.{viewAt, coinIn, heldOf, entered, left, refusedBy, walkedAt, walkedOf, Shown, ShownFork, openingOf, closingOf, meetingOf}
+use Rattle.maker.specs.declared.Walked.{Walked}
+use Rattle.maker.proofs.Copies.{same-is}
+
+stops : (j k : ℕ) (rest : Forks View) → k ≡ j → ¬ (k ≡ 0) → unless j rest ≡ failed k
+unfolding unless
+stops zero k rest e h = absurd (h e)
+stops (suc j) k rest e h = ap failed (sym e)
+
+passes : (j : ℕ) (rest : Forks View) → j ≡ 0 → unless j rest ≡ rest
+unfolding unless
+passes j rest e = rw e
+
+fails : (o : Outcome View) (f : Walk → View → Forks View) (k : ℕ) → o ≡ refused k → byOutcome o failed f ≡ failed k
+unfolding byOutcome
+fails o f k e = rw e
+
+ends : (o : Outcome View) (f : Walk → View → Forks View) (p : Walk) (s : View) → o ≡ ended p s → byOutcome o failed f ≡ f p s
+unfolding byOutcome
+ends o f p s e = rw e
+
+-- ---- what the tests give
+
+pub opened : (limit n u : ℕ) → openingOf limit n u ≡ 0 → (u < limit) × (n ≤ 509)
+opened limit n u e =
+    let x = not-first (leb limit u) 22 (pick (ltb 509 n) 23 0) e in
+    (leb-false limit u (x .0), ltb-false 509 n (not-first (ltb 509 n) 22 0 (x .1) .0))
+
+pub shut-below : (k m limit a u : ℕ) (l z : List ℕ) → closingOf k m limit a u l z ≡ 0 → u < limit
+unfolding closingOf
+shut-below k m limit a u l z e =
+    let x = not-first (lands (viewAt k m l z)) 17 (pick (leb limit u) 23 (pick (heldOf a 0 l z) 0 24)) e in
+    leb-false limit u (not-first (leb limit u) 22 (pick (heldOf a 0 l z) 0 24) (x .1) .0)
+
+not-second : (x : Bool) (k n : ℕ) → pick x n (suc k) ≡ 0 → (x ≡ true) × (n ≡ 0)
+not-second true k n e = (refl, e)
+not-second false k n e = absurd (omega (arith, e))
+
+-- the limit, the nodes, and that the states are the same
+pub met-below : (k m limit a n u : ℕ) (l z : List ℕ) (b : Bool) → meetingOf k m limit a n u l z b ≡ 0 → (u < limit) × (n ≤ 510) × (b ≡ true)
+unfolding meetingOf
+met-below k m limit a n u l z b e =
+    let rest : ℕ = pick (heldOf a 1 l z) (pick b 0 24) 24 in
+    let o = not-first (lands (viewAt k m l z)) 17 (pick (leb limit u) 23 (pick (ltb 510 n) 23 rest)) e in
+    let x = not-first (leb limit u) 22 (pick (ltb 510 n) 23 rest) (o .1) in
+    let y = not-first (ltb 510 n) 22 rest (x .1) in
+    let w = not-second (heldOf a 1 l z) 23 (pick b 0 24) (y .1) in
+    (leb-false limit u (x .0), ltb-false 510 n (y .0), not-second b 23 0 (w .1) .0)
+
+-- states that differ at most in registers and memory
+and-true : (a : Bool) → (a && true) ≡ a
+and-true true = refl
+and-true false = refl
+
+pub same-both : (k m : ℕ) (l z l′ z′ : List ℕ) → sameView (viewAt k m l z) (viewAt k m l′ z′) ≡ (sameWords l l′ && sameWords z z′)
+same-both k m l z l′ z′ = rw (eq-eqb k k refl, eq-eqb m m refl, and-true (sameWords z z′))
+
+module _ (k w limit nest : ℕ) (v n u : ℕ) (s m₀ t : List ℕ) where
+  abbrev deep : ℕ → ℕ → View → Outcome View
+  deep n u x = branchAt machine limit (nest - 1) true n u x
+
+  abbrev here : View
+  here = viewAt k w s m₀
+
+  -- the qif's register, its value, and where branch x starts
+  abbrev c : ℕ
+  c = coinIn s m₀
+
+  abbrev start : ℕ → View
+  start x = viewAt k w (entered s c x) m₀
+
+  abbrev whole : Forks View
+  whole = forkAt machine limit nest n u here
+
+  abbrev by : Forks View
+  by = forkBy machine limit deep n u here
+
+  opens : ¬ (nest ≡ 0) → whole ≡ by
+  unfolding forkAt
+  opens h = go nest h
+    where
+      go : (j : ℕ) → ¬ (j ≡ 0) → forkAt machine limit j n u here ≡ forkBy machine limit (λ n u x. branchAt machine limit (j - 1) true n u x) n u here
+      go zero h = absurd (h refl)
+      go (suc j) h = ap (λ (i : ℕ). forkBy machine limit (λ n u x. branchAt machine limit i true n u x) n u here) (sym (sub-one (suc j)))
+
+  abbrev Answers : Forks View → Walked → List ℕ → List ℕ → Type 0
+  Answers o r l z = ShownFork k w o v n u t r l z
+
+  out : {o : Forks View} (r : Walked) (l z : List ℕ) → whole ≡ o → Answers o r l z → Answers whole r l z
+  out r l z e h = subst (λ (o : Forks View). Answers o r l z) (sym e) h
+
+  pub none : (r : Walked) (l z : List ℕ) → nest ≡ 0 → r ≡ refusedBy 23 → Answers whole r l z
+  unfolding forkAt
+  none r l z e q = out r l z (go nest e) (q, λ z. omega (arith, z))
+    where
+      go : (j : ℕ) → j ≡ 0 → forkAt machine limit j n u here ≡ failed 23
+      go zero e = refl
+      go (suc j) e = absurd (omega (arith, e))
+
+  noded : (a b : Walk) → n + 2 + size a + size b + 1 ≡ n + forkSize a b
+  noded a b = omega arith
+
+  counted : (a b : Walk) (x : List ℕ) → walkedAt x (u + 1 + used a + 1 + used b + 1) (2 + (cycles a + (cycles b - cycles a))) (n + 2 + size a + size b + 1) (n + 2 + size a + size b + 1)
+      ≡ walkedAt x (u + forkUsed a b) (forkCycles a b) (n + forkSize a b) (n + forkSize a b)
+  counted a b x =
+      ap (λ (i : ℕ). walkedAt x i (2 + (cycles a + (cycles b - cycles a))) (n + 2 + size a + size b + 1) (n + 2 + size a + size b + 1)) (omega arith)
+      ∙ ap₂ (λ (i j : ℕ). walkedAt x (u + forkUsed a b) i j j) (omega arith) (noded a b)
+
+  module _ (deeper : ¬ (nest ≡ 0)) where
+    pub shut : (i : ℕ) (r : Walked) (l z : List ℕ) → i ≡ openingOf limit n u → ¬ (i ≡ 0) → r ≡ refusedBy i → Answers whole r l z
+    unfolding forkBy
+    shut i r l z e h q = out r l z (opens deeper ∙ stops _ i _ e h) (q, h)
+
+    -- what branch 0 says, with the memory z at its exit
+    abbrev First : Walked → List ℕ → List ℕ → Type 0
+    First r l z = Shown k w (deep (n + 2) (u + 1) (start 0)) (n + 1) (n + 2) (u + 1) t r l z
+
+    module _ (open-0 : openingOf limit n u ≡ 0) where
+      pub refused₀ : (r : Walked) (l z y : List ℕ) → First r l z → ¬ (r .refusal ≡ 0) → Answers whole r l y
+      unfolding forkBy
+      refused₀ r l z y h i = go (deep (n + 2) (u + 1) (start 0)) refl h
+        where
+          go : (o : Outcome View) → deep (n + 2) (u + 1) (start 0) ≡ o → Shown k w o (n + 1) (n + 2) (u + 1) t r l z → Answers whole r l y
+          go (refused j) e q = out r l y (opens deeper ∙ (passes _ _ open-0 ∙ fails _ _ j e)) q
+          go (ended p x) e q = absurd (i (ap (λ (y : Walked). y .refusal) (q .0)))
+
+      -- branch 0 came to its fiq
+      pub record Came₀ (r : Walked) (l z : List ℕ) : Type 0 where
+        pub a : Walk
+        pub came : deep (n + 2) (u + 1) (start 0) ≡ ended a (viewAt k w (r .regs) z)
+        pub answer : r ≡ walkedOf (n + 1) (n + 2) (u + 1) a (r .regs)
+        pub table : l ≡ drawn a (n + 1) (n + 2) t
+
+      pub came₀ : (r : Walked) (l z : List ℕ) → First r l z → r .refusal ≡ 0 → Came₀ r l z
+      came₀ r l z h i = go (deep (n + 2) (u + 1) (start 0)) refl h
+        where
+          go : (o : Outcome View) → deep (n + 2) (u + 1) (start 0) ≡ o → Shown k w o (n + 1) (n + 2) (u + 1) t r l z → Came₀ r l z
+          go (refused j) e q = absurd (q .1 (sym (ap (λ (y : Walked). y .refusal) (q .0)) ∙ i))
+          go (ended p x) e q = record { a = p; came = e ∙ ap (ended p) (q .2); answer = q .0; table = q .1 }
+
+      module _ (a : Walked) (l₀ z₀ : List ℕ) (g : Came₀ a l₀ z₀) where
+        abbrev x₀ : View
+        x₀ = viewAt k w (a .regs) z₀
+
+        used₀ : a .used ≡ u + 1 + used (g .a)
+        used₀ = ap (λ (y : Walked). y .used) (g .answer)
+
+        closed : (i : ℕ) → i ≡ closingOf k w limit c (a .used) (a .regs) z₀ → i ≡ closing machine limit here (u + 1 + used (g .a)) x₀
+        unfolding closingOf
+        closed i e = e ∙ ap (λ (y : ℕ). closing machine limit here y x₀) used₀
+
+        abbrev after-close : Forks View
+        after-close =
+            byOutcome (deep (n + 2 + size (g .a)) (u + 1 + used (g .a) + 1) (start 1)) failed λ b x₁.
+            unless (meeting machine limit here (n + 2 + size (g .a) + size b) (u + 1 + used (g .a) + 1 + used b) x₀ x₁) (forked (g .a) b (machine .after here x₀))
+
+        to-close : by ≡ unless (closing machine limit here (u + 1 + used (g .a)) x₀) after-close
+        unfolding forkBy
+        to-close = passes _ _ open-0 ∙ ends _ _ (g .a) x₀ (g .came)
+
+        pub shut₀ : (i : ℕ) (r : Walked) (l z : List ℕ) → i ≡ closingOf k w limit c (a .used) (a .regs) z₀ → ¬ (i ≡ 0) → r ≡ refusedBy i → Answers whole r l z
+        shut₀ i r l z e h q = out r l z (opens deeper ∙ (to-close ∙ stops _ i _ (closed i e) h)) (q, h)
+
+        -- what branch 1 says, from the memory m that was put back
+        abbrev Then : List ℕ → Walked → List ℕ → List ℕ → Type 0
+        Then m r l z = Shown k w (deep (a .nodes) (a .used + 1) (viewAt k w (entered s c 1) m)) (n + 2) (a .nodes) (a .used + 1) l₀ r l z
+
+        module _ (close-0 : closingOf k w limit c (a .used) (a .regs) z₀ ≡ 0) (m : List ℕ) (back : m ≡ m₀) where
+          abbrev second : Outcome View
+          second = deep (n + 2 + size (g .a)) (u + 1 + used (g .a) + 1) (start 1)
+
+          abbrev Second : Outcome View → Walked → List ℕ → List ℕ → Type 0
+          Second o r l z = Shown k w o (n + 2) (n + 2 + size (g .a)) (u + 1 + used (g .a) + 1) l₀ r l z
+
+          asked : (r : Walked) (l z : List ℕ) → Then m r l z → Second second r l z
+          asked r l z h =
+              subst (λ (y : Walked). Shown k w (deep (y .nodes) (y .used + 1) (start 1)) (n + 2) (y .nodes) (y .used + 1) l₀ r l z) (g .answer)
+              (subst (λ (j : List ℕ). Then j r l z) back h)
+
+          to-branch : by ≡ after-close
+          to-branch = to-close ∙ passes _ _ (sym (closed _ refl) ∙ close-0)
+
+          pub refused₁ : (r : Walked) (l z y : List ℕ) → Then m r l z → ¬ (r .refusal ≡ 0) → Answers whole r l y
+          refused₁ r l z y h i = go second refl (asked r l z h)
+            where
+              go : (o : Outcome View) → second ≡ o → Second o r l z → Answers whole r l y
+              go (refused j) e q = out r l y (opens deeper ∙ (to-branch ∙ fails _ _ j e)) q
+              go (ended p x) e q = absurd (i (ap (λ (y : Walked). y .refusal) (q .0)))
+
+          -- branch 1 came to its fiq
+          pub record Came₁ (r : Walked) (l z : List ℕ) : Type 0 where
+            pub b : Walk
+            pub came : second ≡ ended b (viewAt k w (r .regs) z)
+            pub answer : r ≡ walkedOf (n + 2) (n + 2 + size (g .a)) (u + 1 + used (g .a) + 1) b (r .regs)
+            pub table : l ≡ drawn b (n + 2) (n + 2 + size (g .a)) l₀
+
+          pub came₁ : (r : Walked) (l z : List ℕ) → Then m r l z → r .refusal ≡ 0 → Came₁ r l z
+          came₁ r l z h i = go second refl (asked r l z h)
+            where
+              go : (o : Outcome View) → second ≡ o → Second o r l z → Came₁ r l z
+              go (refused j) e q = absurd (q .1 (sym (ap (λ (y : Walked). y .refusal) (q .0)) ∙ i))
+              go (ended p x) e q = record { b = p; came = e ∙ ap (ended p) (q .2); answer = q .0; table = q .1 }
+
+          -- both: whether the registers after the fiq and the memories are the same
+          module _ (b : Walked) (l₁ z₁ : List ℕ) (h : Came₁ b l₁ z₁) (old : ℕ) (was : old ≡ getD s c 0) (both : Bool)
+              (told : both ≡ (sameWords (left (a .regs) c old) (left (b .regs) c old) && sameWords z₀ z₁)) where
+            abbrev x₁ : View
+            x₁ = viewAt k w (b .regs) z₁
+
+            both-is : both ≡ machine .same (machine .after here x₀) (machine .after here x₁)
+            both-is =
+                told
+                ∙ (ap (λ (y : ℕ). sameWords (left (a .regs) c y) (left (b .regs) c y) && sameWords z₀ z₁) was
+                ∙ sym (same-both k w (left (a .regs) c (getD s c 0)) z₀ (left (b .regs) c (getD s c 0)) z₁))
+
+            met : (i : ℕ) → i ≡ meetingOf k w limit c (b .nodes) (b .used) (b .regs) z₁ both
+                → i ≡ meeting machine limit here (n + 2 + size (g .a) + size (h .b)) (u + 1 + used (g .a) + 1 + used (h .b)) x₀ x₁
+            unfolding meetingOf
+            met i e =
+                e
+                ∙ (ap (λ (y : Bool). meetingOf k w limit c (b .nodes) (b .used) (b .regs) z₁ y) both-is
+                ∙ ap₂ (λ (i j : ℕ). meeting machine limit here i j x₀ x₁) (ap (λ (y : Walked). y .nodes) (h .answer)) (ap (λ (y : Walked). y .used) (h .answer)))
+
+            to-meet : by
+                ≡ unless (meeting machine limit here (n + 2 + size (g .a) + size (h .b)) (u + 1 + used (g .a) + 1 + used (h .b)) x₀ x₁)
+                (forked (g .a) (h .b) (machine .after here x₀))
+            to-meet = to-branch ∙ ends _ _ (h .b) x₁ (h .came)
+
+            pub shut₁ : (i : ℕ) (r : Walked) (l z : List ℕ) → i ≡ meetingOf k w limit c (b .nodes) (b .used) (b .regs) z₁ both → ¬ (i ≡ 0) → r ≡ refusedBy i
+                → Answers whole r l z
+            shut₁ i r l z e j q = out r l z (opens deeper ∙ (to-meet ∙ stops _ i _ (met i e) j)) (q, j)
+
+            same-memory : meetingOf k w limit c (b .nodes) (b .used) (b .regs) z₁ both ≡ 0 → z₀ ≡ z₁
+            same-memory i =
+                same-is z₀ z₁ (both-true (sameWords (left (a .regs) c old) (left (b .regs) c old)) (sameWords z₀ z₁)
+                (sym told ∙ met-below k w limit c (b .nodes) (b .used) (b .regs) z₁ both i .2) .1)
+
+            -- both came to their fiq and meet: the answer x, with the table d; the memory is branch 1's, which is branch 0's
+            pub done : (x : Walked) (d : List ℕ) → meetingOf k w limit c (b .nodes) (b .used) (b .regs) z₁ both ≡ 0
+                → x ≡ walkedAt (left (a .regs) c old) (b .used + 1) (2 + (a .cycles + (b .cycles - a .cycles))) (b .nodes + 1) (b .nodes + 1)
+                → d ≡ linked v (n + 1) (n + 2) (a .node) (b .node) (b .nodes + 1) (b .cycles - a .cycles) (a .cycles - b .cycles) l₁
+                → Answers whole x d z₁
+            done x d i q j =
+                let regs-is : x .regs ≡ left (a .regs) c old = ap (λ (y : Walked). y .regs) q in
+                out x d z₁ (opens deeper ∙ (to-meet ∙ passes _ _ (sym (met _ refl) ∙ i))) (
+                  q
+                      ∙ (ap₂ (λ (y z : Walked). walkedAt (left (a .regs) c old) (z .used + 1) (2 + (y .cycles + (z .cycles - y .cycles))) (z .nodes + 1) (z .nodes + 1)) (g .answer) (h .answer)
+                      ∙ (counted (g .a) (h .b) (left (a .regs) c old)
+                      ∙ ap (λ (y : List ℕ). walkedAt y (u + forkUsed (g .a) (h .b)) (forkCycles (g .a) (h .b)) (n + forkSize (g .a) (h .b)) (n + forkSize (g .a) (h .b))) (sym regs-is))),
+                  j
+                      ∙ (ap₂ (λ (y z : Walked). linked v (n + 1) (n + 2) (y .node) (z .node) (z .nodes + 1) (z .cycles - y .cycles) (y .cycles - z .cycles) l₁) (g .answer) (h .answer)
+                      ∙ (ap (λ (j : ℕ). linked v (n + 1) (n + 2) (ending (g .a) (n + 1) (n + 2)) (ending (h .b) (n + 2) (n + 2 + size (g .a))) j (lack (g .a) (h .b)) (lack (h .b) (g .a)) l₁) (noded (g .a) (h .b))
+                      ∙ ap (forkLinked v n (g .a) (h .b)) (h .table ∙ ap (drawn (h .b) (n + 2) (n + 2 + size (g .a))) (g .table)))),
+                  ap₂ (λ (y : ℕ) (z : List ℕ). viewAt k w (left (a .regs) c y) z) (sym was) (same-memory i) ∙ ap (λ (y : List ℕ). viewAt k w y z₁) (sym regs-is),
+                )
+
+            pub short : 2 + (a .cycles + (b .cycles - a .cycles)) ≤ b .used
+            short =
+                omega (arith, ap (λ (y : Walked). y .cycles) (g .answer), ap (λ (y : Walked). y .cycles) (h .answer), ap (λ (y : Walked). y .used) (h .answer), cycles-used (g .a), cycles-used (h .b))

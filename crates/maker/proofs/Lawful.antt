@@ -1,0 +1,98 @@
+-- What the walk relies on of the machine: setting a coin leaves the word at pc, and states that are the same are equal. Assumes nothing.
+use mathlib.Core.Path.{_≡_, refl, sym, ap, ap₂, _∙_, subst}
+use mathlib.Core.Logic.{_≢_}
+use mathlib.Core.Bool.{Bool, true, false, not, _&&_}
+use mathlib.Core.List.{List, [], _∷_}
+use Prim.Native.Nat.{ℕ, _+_, _<_, _≤_}
+use native.Mathlib.Omega.{arith}
+use lib.Dec.{eqb, ltb}
+use lib.ListN.{length, getD, set, length-set}
+use lib.Seq.{getD-set-same, getD-set-other}
+use borrow.Author.Tests.{ltb-true, eqb-true}
+use Rattle.qins.specs.Op.{Op}
+use Rattle.qins.specs.Op.Op.{Qif, Fiq}
+use Rattle.step.specs.declared.Direction.the-variants.{Forward}
+use Rattle.step.specs.declared.Status.{Status}
+use Rattle.step.specs.View.{View, reg, withReg}
+use Rattle.step.specs.Step.{shifted}
+use Rattle.machine.specs.Turn.{pc, br, stride, isCode, starts, finishes}
+use Rattle.maker.specs.Walkable.{Look, Walkable}
+use Rattle.maker.specs.Walkable.Look.{halts, last, goes, forks, joins}
+use Rattle.maker.specs.Idle.{idleOp, opAt, kindOf, coinOf, coinAt, isRegister, sameWords, sameStatus, sameView, machine}
+use Rattle.maker.proofs.Choices.{Lawful, IsFalse, both-true}
+use Rattle.maker.proofs.Looked.{AtQif, at-qif, is-qif}
+
+-- ---- a register that is neither pc nor br
+
+module _ (s : View) (a x : ℕ) (h : isRegister s a ≡ true) where
+  above : 1 < a
+  above = ltb-true 1 a (both-true (ltb 1 a) (ltb a (length (s .regs))) h .0)
+
+  there : a < length (s .regs)
+  there = ltb-true a (length (s .regs)) (both-true (ltb 1 a) (ltb a (length (s .regs))) h .1)
+
+  pub pc-stays : pc (withReg s a x) ≡ pc s
+  pc-stays = getD-set-other (s .regs) a 0 x 0 (omega (arith, above))
+
+  pub br-stays : br (withReg s a x) ≡ br s
+  br-stays = getD-set-other (s .regs) a 1 x 0 (omega (arith, above))
+
+  pub reads : reg (withReg s a x) a ≡ x
+  reads = getD-set-same (s .regs) a x 0 there
+
+  pub op-stays : opAt (withReg s a x) ≡ opAt s
+  op-stays = ap (λ (i : ℕ). idleOp (getD (s .memory) i 0)) pc-stays
+
+  pub qif-stays : (q : AtQif s) → AtQif (withReg s a x)
+  qif-stays q =
+      record {
+        a = q .a;
+        op = op-stays ∙ q .op;
+        named = ap (λ (n : ℕ). ltb 1 (q .a) && ltb (q .a) n) (length-set (s .regs) a x) ∙ q .named;
+        code = ap (isCode (s .at)) pc-stays ∙ q .code;
+        runs = ap (finishes (s .memory)) pc-stays ∙ q .runs;
+        free = ap₂ (λ (i j : ℕ). starts (s .at) (s .memory) (shifted Forward i (stride j))) pc-stays br-stays ∙ q .free;
+      }
+
+-- ---- equal states
+
+words-are : (k l : List ℕ) → sameWords k l ≡ true → k ≡ l
+unfolding sameWords
+words-are [] [] e = refl
+words-are [] (y ∷ l) e = absurd (subst IsFalse e tt)
+words-are (x ∷ k) [] e = absurd (subst IsFalse e tt)
+words-are (x ∷ k) (y ∷ l) e =
+    let q = both-true (eqb x y) (sameWords k l) e in
+    ap₂ (λ (i : ℕ) (r : List ℕ). i ∷ r) (eqb-true x y (q .0)) (words-are k l (q .1))
+
+status-is : (x y : Status) → sameStatus x y ≡ true → x ≡ y
+status-is x y e =
+    let p₃ : Bool = eqb (x .qifv) (y .qifv) && eqb (x .qifw) (y .qifw) in
+    let p₂ : Bool = eqb (x .n) (y .n) && p₃ in
+    let p₁ : Bool = eqb (x .m) (y .m) && p₂ in
+    let k = both-true (eqb (x .k) (y .k)) p₁ e in
+    let m = both-true (eqb (x .m) (y .m)) p₂ (k .1) in
+    let n = both-true (eqb (x .n) (y .n)) p₃ (m .1) in
+    let v = both-true (eqb (x .qifv) (y .qifv)) (eqb (x .qifw) (y .qifw)) (n .1) in
+    ap₂ (λ (i j : ℕ). record { qifv = i; qifw = j; k = x .k; m = x .m; n = x .n }) (eqb-true _ _ (v .0)) (eqb-true _ _ (v .1))
+    ∙ (ap₂ (λ (i j : ℕ). record { qifv = y .qifv; qifw = y .qifw; k = i; m = j; n = x .n }) (eqb-true _ _ (k .0)) (eqb-true _ _ (m .0))
+    ∙ ap (λ (i : ℕ). record { qifv = y .qifv; qifw = y .qifw; k = y .k; m = y .m; n = i }) (eqb-true _ _ (n .0)))
+
+views-are : (s z : View) → sameView s z ≡ true → s ≡ z
+views-are s z e =
+    let p = both-true (sameWords (s .regs) (z .regs)) (sameWords (s .memory) (z .memory) && sameStatus (s .at) (z .at)) e in
+    let q = both-true (sameWords (s .memory) (z .memory)) (sameStatus (s .at) (z .at)) (p .1) in
+    ap (λ (x : Status). record { at = x; regs = s .regs; memory = s .memory }) (status-is (s .at) (z .at) (q .1))
+    ∙ ap₂ (λ (x y : List ℕ). record { at = z .at; regs = x; memory = y }) (words-are (s .regs) (z .regs) (p .0)) (words-are (s .memory) (z .memory) (q .0))
+
+pub machine-lawful : Lawful machine
+machine-lawful =
+    record {
+      still = λ s x e. let q = at-qif s e in is-qif (withReg s (coinAt s) x) (qif-stays s (coinAt s) x (at-name s q) q);
+      set = λ s x e. let q = at-qif s e in ap (λ (o : Op). reg (withReg s (coinAt s) x) (coinOf (kindOf o))) (op-stays s (coinAt s) x (at-name s q)) ∙ reads s (coinAt s) x (at-name s q);
+      held = λ s t x h. eqb-true (reg t (coinAt t)) x (both-true (eqb (coinAt s) (coinAt t)) (eqb (reg t (coinAt t)) x) h .1);
+      alike = λ s t u h. views-are _ _ h;
+    }
+  where
+    at-name : (s : View) (q : AtQif s) → isRegister s (coinAt s) ≡ true
+    at-name s q = ap (λ (o : Op). isRegister s (coinOf (kindOf o))) (q .op) ∙ q .named

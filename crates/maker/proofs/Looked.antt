@@ -1,0 +1,127 @@
+-- What the look at a word says of it. Assumes nothing.
+use mathlib.Core.Path.{_≡_, refl, sym, subst}
+use mathlib.Core.Bool.{Bool, true, false}
+use mathlib.Core.List.{[]}
+use Prim.Native.Nat.{ℕ}
+use Rattle.word.specs.Word.{pick}
+use Rattle.qins.specs.Op.{Op}
+use Rattle.qins.specs.Op.Op.{None, Start, Finish, Xor, Add, Sub, Neg, Swap, SwapBits, Fetch, Exchange, Qif, Fiq}
+use Rattle.step.specs.declared.Attempt.{Attempt}
+use Rattle.step.specs.declared.Attempt.the-variants.{Refused, Does}
+use Rattle.step.specs.declared.Direction.the-variants.{Forward}
+use Rattle.step.specs.declared.Effect.{Effect}
+use Rattle.step.specs.View.{View}
+use Rattle.step.specs.Step.{performed, attempt}
+use Rattle.machine.specs.Turn.{pc, isCode, finishes, landed, to}
+use Rattle.maker.specs.declared.Kind.{Kind}
+use Rattle.maker.specs.declared.Kind.the-variants.{Plain, Opens, Closes}
+use Rattle.maker.specs.Walkable.{Look}
+use Rattle.maker.specs.Walkable.Look.{halts, last, goes, forks, joins}
+use Rattle.maker.specs.Idle.{opAt, kindOf, placed, lands, isRegister, ledTo, lookBy, lookAt}
+
+-- ---- what a kind says of the operation
+
+abbrev pub Shape : Kind → Op → Type 0
+Shape Plain o = Unit {0}
+Shape (Opens a) o = o ≡ Qif a
+Shape (Closes a) o = o ≡ Fiq a
+
+pub shape : (o : Op) → Shape (kindOf o) o
+shape None = tt
+shape Start = tt
+shape Finish = tt
+shape (Xor a v) = tt
+shape (Add a v) = tt
+shape (Sub a v) = tt
+shape (Neg a) = tt
+shape (Swap a b) = tt
+shape (SwapBits a b) = tt
+shape (Fetch a b) = tt
+shape (Exchange a v) = tt
+shape (Qif a) = refl
+shape (Fiq a) = refl
+
+abbrev pub IsPlain : Kind → Type 0
+IsPlain Plain = Unit {0}
+IsPlain (Opens a) = ⊥
+IsPlain (Closes a) = ⊥
+
+-- ---- a qif, a fiq, or a word that leads on to z by the effect e
+
+pub record AtQif (s : View) : Type 0 where
+  pub a : ℕ
+  pub op : opAt s ≡ Qif a
+  pub named : isRegister s a ≡ true
+  pub code : isCode (s .at) (pc s) ≡ true
+  pub runs : finishes (s .memory) (pc s) ≡ false
+  pub free : lands s ≡ false
+
+pub record AtFiq (s : View) : Type 0 where
+  pub a : ℕ
+  pub op : opAt s ≡ Fiq a
+  pub named : isRegister s a ≡ true
+  pub code : isCode (s .at) (pc s) ≡ true
+  pub runs : finishes (s .memory) (pc s) ≡ false
+
+pub record AtPlain (s z : View) : Type 0 where
+  pub plain : IsPlain (kindOf (opAt s))
+  pub e : Effect
+  pub does : landed Forward (placed 0 0 0 s) (attempt [] Forward (opAt s) (placed 0 0 0 s)) ≡ Does e
+  pub code : isCode (s .at) (pc s) ≡ true
+  pub runs : finishes (s .memory) (pc s) ≡ false
+  pub next : to Forward (performed e (placed 0 0 0 s)) ≡ z
+
+abbrev Says : View → Look View → Type 0
+Says s (halts k) = Unit {0}
+Says s last = (isCode (s .at) (pc s) ≡ true) × (finishes (s .memory) (pc s) ≡ true)
+Says s (goes z) = AtPlain s z
+Says s forks = AtQif s
+Says s joins = AtFiq s
+
+module _ (s : View) (code : isCode (s .at) (pc s) ≡ true) (runs : finishes (s .memory) (pc s) ≡ false) where
+  by-effect : IsPlain (kindOf (opAt s)) → (x : Attempt)
+      → landed Forward (placed 0 0 0 s) (attempt [] Forward (opAt s) (placed 0 0 0 s)) ≡ x → Says s (ledTo (placed 0 0 0 s) x)
+  by-effect p (Refused n) d = tt
+  by-effect p (Does e) d = record { plain = p; e = e; does = d; code = code; runs = runs; next = refl }
+
+  by-qif : (a : ℕ) → opAt s ≡ Qif a → (x y : Bool) → isRegister s a ≡ x → lands s ≡ y → Says s (pick x (pick y (halts 18) forks) (halts 13))
+  by-qif a q true true h k = tt
+  by-qif a q true false h k = record { a = a; op = q; named = h; code = code; runs = runs; free = k }
+  by-qif a q false y h k = tt
+
+  by-fiq : (a : ℕ) → opAt s ≡ Fiq a → (x : Bool) → isRegister s a ≡ x → Says s (pick x joins (halts 13))
+  by-fiq a q true h = record { a = a; op = q; named = h; code = code; runs = runs }
+  by-fiq a q false h = tt
+
+  by-kind : (k : Kind) → kindOf (opAt s) ≡ k → Says s (lookBy k (opAt s) (placed 0 0 0 s))
+  by-kind Plain q = by-effect (subst IsPlain (sym q) tt) _ refl
+  by-kind (Opens a) q = by-qif a (subst (λ (k : Kind). Shape k (opAt s)) q (shape (opAt s))) (isRegister s a) (lands s) refl refl
+  by-kind (Closes a) q = by-fiq a (subst (λ (k : Kind). Shape k (opAt s)) q (shape (opAt s))) (isRegister s a) refl
+
+by-tests : (s : View) (x y : Bool) → isCode (s .at) (pc s) ≡ x → finishes (s .memory) (pc s) ≡ y
+    → Says s (pick x (pick y last (lookBy (kindOf (opAt s)) (opAt s) (placed 0 0 0 s))) (halts 11))
+by-tests s true true p q = (p, q)
+by-tests s true false p q = by-kind s p q (kindOf (opAt s)) refl
+by-tests s false y p q = tt
+
+says : (s : View) → Says s (lookAt s)
+unfolding lookAt
+says s = by-tests s (isCode (s .at) (pc s)) (finishes (s .memory) (pc s)) refl refl
+
+pub at-qif : (s : View) → lookAt s ≡ forks → AtQif s
+at-qif s e = subst (Says s) e (says s)
+
+pub at-fiq : (s : View) → lookAt s ≡ joins → AtFiq s
+at-fiq s e = subst (Says s) e (says s)
+
+pub at-plain : (s z : View) → lookAt s ≡ goes z → AtPlain s z
+at-plain s z e = subst (Says s) e (says s)
+
+pub last-is : (s : View) → lookAt s ≡ last → (isCode (s .at) (pc s) ≡ true) × (finishes (s .memory) (pc s) ≡ true)
+last-is s e = subst (Says s) e (says s)
+
+-- ---- and back
+
+pub is-qif : (s : View) → AtQif s → lookAt s ≡ forks
+unfolding lookAt
+is-qif s h = rw (h .code, h .runs, h .op, h .named, h .free)

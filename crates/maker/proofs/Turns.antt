@@ -1,0 +1,237 @@
+-- A cycle of the machine as the maker walks it is a turn of the machine itself. Assumes nothing.
+use mathlib.Core.Path.{_≡_, refl, sym, ap, ap₂, _∙_, subst}
+use mathlib.Core.Logic.{_≢_}
+use mathlib.Core.Bool.{Bool, true, false, not, _&&_}
+use mathlib.Core.List.{List, [], _∷_}
+use Prim.Native.Nat.{ℕ, zero, suc, _+_, _-_, _*_, _<_, _≤_}
+use native.Mathlib.Omega.{arith}
+use lib.Dec.{eqb, ltb, leb}
+use lib.ListN.{length, getD, set, length-set}
+use lib.Seq.{set-getD}
+use borrow.Author.Tests.{eqb-true, le-ltb, le-leb, leb-true}
+use Rattle.word.specs.Word.{pick}
+use Rattle.qins.specs.Op.{Op}
+use Rattle.qins.specs.Op.Op.{None, Start, Finish, Xor, Add, Sub, Neg, Swap, SwapBits, Fetch, Exchange, Qif, Fiq}
+use Rattle.step.specs.declared.Direction.the-variants.{Forward}
+use Rattle.step.specs.declared.Effect.{Effect}
+use Rattle.step.specs.declared.Effect.the-variants.{Nothing, Write, WriteTwo, SwapWord, SetNode}
+use Rattle.step.specs.declared.Attempt.{Attempt}
+use Rattle.step.specs.declared.Attempt.the-variants.{Refused, Does}
+use Rattle.step.specs.declared.Status.{Status}
+use Rattle.step.specs.View.{View, reg, withReg}
+use Rattle.step.specs.Table.{fc, lc, cf, cl, nx, pr, w, link, paired}
+use Rattle.step.specs.Step.{shifted, performed, marked, written, refuse, attempt, isCoin, qif, child, pass, fiq}
+use Rattle.step.specs.Step.{enter as entered}
+use Rattle.step.specs.Sizes.{inRange, badSizes}
+use Rattle.machine.specs.Turn.{pc, br, atPc, stride, isCode, starts, finishes, landed, judged, from, to, turned}
+use Rattle.maker.specs.Walkable.{Look, Walkable}
+use Rattle.maker.specs.Walkable.Look.{halts, last, goes, forks, joins}
+use Rattle.maker.proofs.Guided.{settled}
+use Rattle.maker.specs.declared.Kind.{Kind}
+use Rattle.maker.specs.Idle.{opAt, kindOf, coinOf, coinAt, placed, on, lands, isRegister, lookAt, machine}
+use Rattle.maker.specs.Follow.{idled, plannedIdle, Walker, Went, walker, byTurn, turnThen, cycleBy, cycle}
+use Rattle.maker.specs.Follow.Went.{halted, went}
+use Rattle.maker.proofs.Looked.{IsPlain, AtQif, AtFiq, AtPlain, at-qif, at-fiq, at-plain}
+use Rattle.maker.proofs.Lawful.{pc-stays, br-stays, reads, op-stays}
+
+-- ---- a turn that is not refused for sizes, pc or finish
+
+pub from-is : (s : View) → from Forward s ≡ s
+from-is s = ap (λ (r : List ℕ). record { at = s .at; regs = r; memory = s .memory }) (set-getD (s .regs) 0 0)
+
+module _ (t : List ℕ) (s : View) (sized : badSizes (s .at) (s .memory) t ≡ false) (code : isCode (s .at) (pc s) ≡ true) (run : finishes (s .memory) (pc s) ≡ false) where
+  judged-is : (old : ℕ) (x : Attempt) → judged t Forward false old s x ≡ x
+  unfolding judged refuse
+  judged-is old x = rw (sized, code, run)
+
+  planned-is : plannedIdle t s ≡ landed Forward s (idled t s)
+  planned-is =
+      ap (λ (z : View). judged t Forward false (pc s) z (landed Forward z (idled t z))) (from-is s) ∙ judged-is (pc s) (landed Forward s (idled t s))
+
+  -- the turn, where the word's own attempt lands
+  turns : (e : Effect) (f : View → Walker) → landed Forward s (idled t s) ≡ Does e → turnThen t s f ≡ went (f (to Forward (performed e s)))
+  turns e f h =
+      ap (λ (x : Attempt). byTurn x s f) (planned-is ∙ h) ∙ ap (λ (z : View). went (f (to Forward (performed e z)))) (from-is s)
+
+-- ---- a word that leads on
+
+plain-cycle : (t : List ℕ) (x : ℕ) (k : Kind) → IsPlain k → (s : View) (l : List ℕ) → cycleBy t x k s l ≡ turnThen t s (λ z. walker z l)
+plain-cycle t x Kind.Plain p s l = refl
+plain-cycle t x (Kind.Opens a) p s l = absurd p
+plain-cycle t x (Kind.Closes a) p s l = absurd p
+
+-- neither table nor node counts for it
+plain-attempt : (t : List ℕ) (N v : ℕ) (o : Op) → IsPlain (kindOf o) → (s : View) → attempt t Forward o (placed N v 0 s) ≡ attempt [] Forward o (placed 0 0 0 s)
+unfolding attempt
+plain-attempt t N v None p s = refl
+plain-attempt t N v Start p s = refl
+plain-attempt t N v Finish p s = refl
+plain-attempt t N v (Xor a x) p s = refl
+plain-attempt t N v (Add a x) p s = refl
+plain-attempt t N v (Sub a x) p s = refl
+plain-attempt t N v (Neg a) p s = refl
+plain-attempt t N v (Swap a b) p s = refl
+plain-attempt t N v (SwapBits a b) p s = refl
+plain-attempt t N v (Fetch a b) p s = refl
+plain-attempt t N v (Exchange a x) p s = refl
+plain-attempt t N v (Qif a) p s = absurd p
+plain-attempt t N v (Fiq a) p s = absurd p
+
+-- its effect leaves node and wait count
+abbrev pub NoNode : Effect → Type 0
+NoNode Nothing = Unit {0}
+NoNode (Write a v) = Unit {0}
+NoNode (WriteTwo a v b x) = Unit {0}
+NoNode (SwapWord a i) = Unit {0}
+NoNode (SetNode u j) = ⊥
+
+-- a refusal that is none of 0, or such an effect
+abbrev pub Fine : Attempt → Type 0
+Fine (Refused n) = ¬ (n ≡ 0)
+Fine (Does e) = NoNode e
+
+fine : (b : Bool) (n : ℕ) (x : Attempt) → ¬ (n ≡ 0) → Fine x → Fine (refuse b n x)
+unfolding refuse
+fine true n x h f = h
+fine false n x h f = f
+
+pub plain-effect : (o : Op) → IsPlain (kindOf o) → (s : View) → Fine (attempt [] Forward o s)
+unfolding attempt
+plain-effect None p s = λ z. omega (arith, z)
+plain-effect Start p s = fine _ 14 (Does Nothing) (λ z. omega (arith, z)) tt
+plain-effect Finish p s = fine _ 14 (Does Nothing) (λ z. omega (arith, z)) tt
+plain-effect (Xor a x) p s = fine _ 14 (Does (Write a _)) (λ z. omega (arith, z)) tt
+plain-effect (Add a x) p s = fine _ 14 (Does (Write a _)) (λ z. omega (arith, z)) tt
+plain-effect (Sub a x) p s = fine _ 14 (Does (Write a _)) (λ z. omega (arith, z)) tt
+plain-effect (Neg a) p s = fine _ 14 (Does (Write a _)) (λ z. omega (arith, z)) tt
+plain-effect (Swap a b) p s = fine _ 14 (Does (WriteTwo a _ b _)) (λ z. omega (arith, z)) tt
+plain-effect (SwapBits a b) p s = fine _ 14 (Does (WriteTwo a _ b _)) (λ z. omega (arith, z)) tt
+plain-effect (Fetch a b) p s = fine _ 14 _ (λ z. omega (arith, z)) (fine _ 15 (Does (Write a _)) (λ z. omega (arith, z)) tt)
+plain-effect (Exchange a x) p s = fine _ 14 _ (λ z. omega (arith, z)) (fine _ 15 (Does (SwapWord a _)) (λ z. omega (arith, z)) tt)
+plain-effect (Qif a) p s = absurd p
+plain-effect (Fiq a) p s = absurd p
+
+pub landed-effect : (s : View) (x : Attempt) → Fine x → Fine (landed Forward s x)
+unfolding landed
+landed-effect s (Refused n) h = h
+landed-effect s (Does e) h = fine _ 18 (Does e) (λ z. omega (arith, z)) h
+
+-- placed at a node, an attempt without one lands as it does there
+landed-placed : (N v : ℕ) (s : View) (x : Attempt) → Fine x → landed Forward (placed N v 0 s) x ≡ landed Forward (placed 0 0 0 s) x
+unfolding landed
+landed-placed N v s (Refused n) h = refl
+landed-placed N v s (Does Nothing) h = refl
+landed-placed N v s (Does (Write a x)) h = refl
+landed-placed N v s (Does (WriteTwo a x b y)) h = refl
+landed-placed N v s (Does (SwapWord a i)) h = refl
+landed-placed N v s (Does (SetNode u j)) h = absurd h
+
+to-placed : (N v : ℕ) (s : View) (e : Effect) → NoNode e → to Forward (performed e (placed N v 0 s)) ≡ placed N v 0 (to Forward (performed e (placed 0 0 0 s)))
+to-placed N v s Nothing h = refl
+to-placed N v s (Write a x) h = refl
+to-placed N v s (WriteTwo a x b y) h = refl
+to-placed N v s (SwapWord a i) h = refl
+to-placed N v s (SetNode u j) h = absurd h
+
+pub goes-plain : (s z : View) (e : lookAt s ≡ goes z) → NoNode (at-plain s z e .e)
+goes-plain s z e =
+    let q = at-plain s z e in
+    subst Fine (q .does) (landed-effect (placed 0 0 0 s) (attempt [] Forward (opAt s) (placed 0 0 0 s)) (plain-effect (opAt s) (q .plain) (placed 0 0 0 s)))
+
+module _ (t : List ℕ) (N : ℕ) where
+  abbrev pub Sized : View → Type 0
+  Sized s = badSizes (placed N 0 0 s .at) (s .memory) t ≡ false
+
+  pub goes-on : (s z : View) (v x : ℕ) (l : List ℕ) → Sized s → lookAt s ≡ goes z → cycle t x (walker (placed N v 0 s) l) ≡ went (walker (placed N v 0 z) l)
+  unfolding cycle badSizes inRange
+  goes-on s z v x l sized e =
+      let q = at-plain s z e in
+      let there : idled t (placed N v 0 s) ≡ attempt [] Forward (opAt s) (placed 0 0 0 s) = plain-attempt t N v (opAt s) (q .plain) s in
+      let lands : landed Forward (placed N v 0 s) (idled t (placed N v 0 s)) ≡ Does (q .e) = ap (landed Forward (placed N v 0 s)) there ∙ (landed-placed N v s (attempt [] Forward (opAt s) (placed 0 0 0 s)) (plain-effect (opAt s) (q .plain) (placed 0 0 0 s)) ∙ q .does) in
+      plain-cycle t x (kindOf (opAt s)) (q .plain) (placed N v 0 s) l
+      ∙ (turns t (placed N v 0 s) sized (q .code) (q .runs) (q .e) (λ y. walker y l) lands
+      ∙ ap (λ (y : View). went (walker y l)) (to-placed N v s (q .e) (goes-plain s z e) ∙ ap (placed N v 0) (q .next)))
+
+-- ---- an effect that sets node and wait count
+
+set-lands : (s : View) (u j : ℕ) → lands s ≡ false → landed Forward s (Does (SetNode u j)) ≡ Does (SetNode u j)
+unfolding landed refuse
+set-lands s u j h = go (eqb j 0)
+  where
+    go : (b : Bool) → refuse (b && starts (s .at) (s .memory) (pick b (shifted Forward (pc s) (stride (br s))) (pc s))) 18 (Does (SetNode u j)) ≡ Does (SetNode u j)
+    go true = rw h
+    go false = refl
+
+set-to : (t : List ℕ) (M N u j v i : ℕ) (s : View) → to Forward (performed (SetNode u j) (placed N v i s)) ≡ placed N u j (settled machine t M j s)
+set-to t M N u j v i s = go (eqb j 0)
+  where
+    go : (b : Bool) → atPc (placed N u j s) (pick b (shifted Forward (pc s) (stride (br s))) (pc s)) ≡ placed N u j (pick b (on s) s)
+    go true = refl
+    go false = ap (λ (r : List ℕ). record { at = placed N u j s .at; regs = r; memory = s .memory }) (set-getD (s .regs) 0 0)
+
+module _ (t : List ℕ) (N : ℕ) where
+  enters : (s : View) (v a x : ℕ) → x ≤ 1 → reg s a ≡ x → paired t N v (fc x) (link t N v (fc x)) cf ≡ true
+      → attempt t Forward (Qif a) (placed N v 0 s) ≡ Does (SetNode (link t N v (fc x)) (link t N (link t N v (fc x)) w))
+  unfolding attempt qif entered refuse
+  enters s v a x b e p = rw (e, le-leb x 1 b, p)
+
+  waiting : (s : View) (v j a x : ℕ) → eqb j 0 ≡ false → x ≤ 1 → reg s a ≡ x → paired t N (link t N v cf) (fc x) v cf ≡ true → j ≤ link t N v w
+      → attempt t Forward (Qif a) (placed N v j s) ≡ Does (SetNode v (j - 1))
+  unfolding attempt qif child refuse
+  waiting s v j a x z b e p h = rw (e, le-leb x 1 b, z, p, le-ltb (link t N v w) j h)
+
+  leaves : (s : View) (v a x : ℕ) → x ≤ 1 → reg s a ≡ x
+      → (paired t N (link t N v cl) (lc x) v cl && paired t N (link t N v cl) nx (link t N (link t N v cl) nx) pr) ≡ true
+      → attempt t Forward (Fiq a) (placed N v 0 s) ≡ Does (SetNode (link t N (link t N v cl) nx) 0)
+  unfolding attempt fiq pass refuse
+  leaves s v a x b e p = rw (e, le-leb x 1 b, p)
+
+  -- ---- the machine's cycle for each of the maker's
+
+  pub qif-begins : (s : View) (v x : ℕ) (l : List ℕ) → Sized t N s → x ≤ 1 → lookAt s ≡ forks → paired t N v (fc x) (link t N v (fc x)) cf ≡ true
+      → cycle t x (walker (placed N v 0 s) l)
+      ≡ went (walker (placed N (link t N v (fc x)) (link t N (link t N v (fc x)) w) (settled machine t N (link t N (link t N v (fc x)) w) (withReg s (coinAt s) x))) (reg s (coinAt s) ∷ l))
+  unfolding cycle badSizes inRange
+  qif-begins s v x l sized b e p =
+      let q = at-qif s e in
+      let u = link t N v (fc x) in
+      let s′ : View = withReg s (q .a) x in
+      let does : idled t (placed N v 0 s′) ≡ Does (SetNode u (link t N u w)) = ap (λ (o : Op). attempt t Forward o (placed N v 0 s′)) (op-stays s (q .a) x (q .named) ∙ q .op) ∙ enters s′ v (q .a) x b (reads s (q .a) x (q .named)) p in
+      let free : lands (placed N v 0 s′) ≡ false = ap₂ (λ (i j : ℕ). starts (s .at) (s .memory) (shifted Forward i (stride j))) (pc-stays s (q .a) x (q .named)) (br-stays s (q .a) x (q .named)) ∙ q .free in
+      let here : coinAt s ≡ q .a = ap (λ (o : Op). coinOf (kindOf o)) (q .op) in
+      ap (λ (o : Op). cycleBy t x (kindOf o) (placed N v 0 s) l) (q .op)
+      ∙ (turns t (placed N v 0 s′) sized (ap (isCode (s .at)) (pc-stays s (q .a) x (q .named)) ∙ q .code) (ap (finishes (s .memory)) (pc-stays s (q .a) x (q .named)) ∙ q .runs) (SetNode u (link t N u w)) (λ z. walker z (reg s (q .a) ∷ l))
+      (ap (λ (y : Attempt). landed Forward (placed N v 0 s′) y) does ∙ set-lands (placed N v 0 s′) u (link t N u w) free)
+      ∙ (ap (λ (y : View). went (walker y (reg s (q .a) ∷ l))) (set-to t N N u (link t N u w) v 0 s′)
+      ∙ ap (λ (a : ℕ). went (walker (placed N u (link t N u w) (settled machine t N (link t N u w) (withReg s a x))) (reg s a ∷ l))) (sym here)))
+
+  pub qif-waits : (s : View) (v j x : ℕ) (l : List ℕ) → Sized t N s → eqb j 0 ≡ false → reg s (coinAt s) ≤ 1 → lookAt s ≡ forks
+      → paired t N (link t N v cf) (fc (reg s (coinAt s))) v cf ≡ true → j ≤ link t N v w
+      → cycle t x (walker (placed N v j s) l) ≡ went (walker (placed N v (j - 1) (settled machine t N (j - 1) s)) l)
+  unfolding cycle badSizes inRange
+  qif-waits s v j x l sized z b e p h =
+      let q = at-qif s e in
+      let here : coinAt s ≡ q .a = ap (λ (o : Op). coinOf (kindOf o)) (q .op) in
+      let does : idled t (placed N v j s) ≡ Does (SetNode v (j - 1)) = ap (λ (o : Op). attempt t Forward o (placed N v j s)) (q .op) ∙ waiting s v j (q .a) (reg s (coinAt s)) z b (ap (reg s) (sym here)) p h in
+      ap (λ (o : Op). cycleBy t x (kindOf o) (placed N v j s) l) (q .op)
+      ∙ (ap (λ (y : Bool). pick y (turnThen t (withReg (placed N v j s) (q .a) x) (λ z. walker z (reg s (q .a) ∷ l))) (turnThen t (placed N v j s) (λ z. walker z l))) z
+      ∙ (turns t (placed N v j s) sized (q .code) (q .runs) (SetNode v (j - 1)) (λ z. walker z l)
+      (ap (λ (y : Attempt). landed Forward (placed N v j s) y) does ∙ set-lands (placed N v j s) v (j - 1) (q .free))
+      ∙ ap (λ (y : View). went (walker y l)) (set-to t N N v (j - 1) v j s)))
+
+  pub fiq-ends : (s s₀ : View) (v x : ℕ) (l : List ℕ) → Sized t N s → reg s (coinAt s) ≤ 1 → lookAt s ≡ joins → lands s ≡ false → coinAt s₀ ≡ coinAt s
+      → (paired t N (link t N v cl) (lc (reg s (coinAt s))) v cl && paired t N (link t N v cl) nx (link t N (link t N v cl) nx) pr) ≡ true
+      → cycle t x (walker (placed N v 0 s) (reg s₀ (coinAt s₀) ∷ l))
+      ≡ went (walker (placed N (link t N (link t N v cl) nx) 0 (withReg (on s) (coinAt s₀) (reg s₀ (coinAt s₀)))) l)
+  unfolding cycle badSizes inRange
+  fiq-ends s s₀ v x l sized b e free same p =
+      let q = at-fiq s e in
+      let m = link t N (link t N v cl) nx in
+      let c = reg s₀ (coinAt s₀) in
+      let here : coinAt s ≡ q .a = ap (λ (o : Op). coinOf (kindOf o)) (q .op) in
+      let does : idled t (placed N v 0 s) ≡ Does (SetNode m 0) = ap (λ (o : Op). attempt t Forward o (placed N v 0 s)) (q .op) ∙ leaves s v (q .a) (reg s (coinAt s)) b (ap (reg s) (sym here)) p in
+      ap (λ (o : Op). cycleBy t x (kindOf o) (placed N v 0 s) (c ∷ l)) (q .op)
+      ∙ (turns t (placed N v 0 s) sized (q .code) (q .runs) (SetNode m 0) (λ z. walker (withReg z (q .a) c) l)
+      (ap (λ (y : Attempt). landed Forward (placed N v 0 s) y) does ∙ set-lands (placed N v 0 s) m 0 free)
+      ∙ (ap (λ (y : View). went (walker (withReg y (q .a) c) l)) (set-to t N N m 0 v 0 s)
+      ∙ ap (λ (a : ℕ). went (walker (placed N m 0 (withReg (on s) a c)) l)) (sym (same ∙ here))))

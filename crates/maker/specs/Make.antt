@@ -1,0 +1,83 @@
+-- The call (document 02, #107): refusals in order, the answer, and what it leaves of the lent words.
+use Prim.Native.Nat.{ℕ, _+_, _*_}
+use mathlib.Core.Path.{_≡_}
+use mathlib.Core.Bool.{Bool, true, false, not, _&&_}
+use mathlib.Core.List.{List, _++_}
+use lib.Dec.{eqb, leb}
+use lib.ListN.{length, getD, take, drop, replicate}
+use Rattle.word.specs.Word.{pick}
+use Rattle.step.specs.Table.{tableWords}
+use Rattle.step.specs.Sizes.{maxNodes}
+use Rattle.step.specs.View.{View}
+use Rattle.machine.specs.Turn.{starts}
+use Rattle.machine.specs.declared.Record.{Record}
+use Rattle.machine.specs.Calls.{statusOf, wrongSizes}
+use Rattle.maker.specs.declared.Made.{Made}
+use Rattle.maker.specs.Walk.{size, cycles, drawn}
+use Rattle.maker.specs.Making.{Outcome, branchAt}
+use Rattle.maker.specs.Making.Outcome.{refused, ended}
+use Rattle.maker.specs.Idle.{machine}
+use Rattle.maker.specs.Parts.{viewAt}
+
+-- the words of a table of 511 nodes, and of the scratch for M words
+abbrev pub mostWords : ℕ
+mostWords = tableWords maxNodes
+
+abbrev pub scratchWords : Record → ℕ
+scratchWords r = 16 * r .m
+
+-- ---- 22: pc at start, no table yet, no wait, and the table and the scratch long enough
+
+abbrev pub isReady : Record → List ℕ → List ℕ → List ℕ → Bool
+isReady r mem table scratch =
+    starts (statusOf r) (take (r .m) mem) (getD (r .regs) 0 0)
+    && (eqb (r .n) 0
+    && (eqb (r .qifw) 0
+    && (leb mostWords (length table)
+    && leb (scratchWords r) (length scratch))))
+
+-- 10 or 22, else 0
+abbrev pub refusalOf : Record → List ℕ → List ℕ → List ℕ → ℕ
+refusalOf r mem table scratch = pick (wrongSizes r mem table) 10 (pick (isReady r mem table scratch) 0 22)
+
+-- ---- the walk: from node 1, the only one made, with no cycle used and a nesting of eight
+
+unfoldable pub outcomeOf : Record → ℕ → List ℕ → Outcome View
+outcomeOf r limit mem = branchAt machine limit 8 false 1 0 (viewAt (r .k) (r .m) (r .regs) (take (r .m) mem))
+
+-- ---- the answer
+
+abbrev pub madeAs : ℕ → ℕ → Record → Made
+madeAs n c r = record { refusal = n; cycles = c; state = r }
+
+-- r at node 1 of n
+abbrev pub withTable : Record → ℕ → Record
+withTable r n = record { regs = r .regs; qifv = 1; qifw = r .qifw; k = r .k; m = r .m; n = n; position = r .position }
+
+abbrev pub answerOf : Record → Outcome View → Made
+answerOf r (refused i) = madeAs i 0 r
+answerOf r (ended p z) = madeAs 0 (cycles p) (withTable r (1 + size p))
+
+abbrev pub makeOf : Record → ℕ → List ℕ → List ℕ → List ℕ → Made
+makeOf r limit mem table scratch =
+    pick (eqb (refusalOf r mem table scratch) 0) (answerOf r (outcomeOf r limit mem)) (madeAs (refusalOf r mem table scratch) 0 r)
+
+-- ---- the table at exit: the nodes and then zeros, or zeros alone; behind them, and after 10 and 22, as it was
+
+abbrev pub drawnBy : Outcome View → List ℕ
+drawnBy (refused i) = replicate mostWords 0
+drawnBy (ended p z) = drawn p 1 1 (replicate mostWords 0)
+
+abbrev pub tableAfter : Record → ℕ → List ℕ → List ℕ → List ℕ → List ℕ
+tableAfter r limit mem table scratch =
+    pick (eqb (refusalOf r mem table scratch) 0) (drawnBy (outcomeOf r limit mem) ++ drop mostWords table) table
+
+-- ---- what the call promises of its answer a and of the lent words at exit
+
+pub record MakePromise (r : Record) (limit : ℕ) (mem table scratch : List ℕ) (a : Made) (mem′ table′ scratch′ : List ℕ) : Type 0 where
+  pub answer : a ≡ makeOf r limit mem table scratch
+  pub memory : mem′ ≡ mem
+  pub drawn : table′ ≡ tableAfter r limit mem table scratch
+  -- behind its first 16 M words the scratch is as it was, and all of it is after 10 and 22
+  pub behind : drop (scratchWords r) scratch′ ≡ drop (scratchWords r) scratch
+  pub untouched : (refusalOf r mem table scratch ≡ 0 → ⊥) → scratch′ ≡ scratch

@@ -1,0 +1,86 @@
+-- The walk that makes a table (document 02, #107): the number that refuses it, else its tree and the state at its end.
+use Prim.Native.Nat.{ℕ, zero, suc, _+_}
+use mathlib.Core.Bool.{Bool, true, false}
+use lib.Dec.{ltb, leb}
+use Rattle.word.specs.Word.{pick}
+use Rattle.maker.specs.Walk.{Walk, size, used}
+use Rattle.maker.specs.Walk.Walk.{begin, step, fork}
+use Rattle.maker.specs.Walkable.{Look, Walkable}
+use Rattle.maker.specs.Walkable.Look.{halts, last, goes, forks, joins}
+
+pub data Outcome (S : Type 0) : Type 0 where
+  refused : ℕ → Outcome S
+  ended : Walk → S → Outcome S
+
+-- of a qif: its two branches, and the state after it
+pub data Forks (S : Type 0) : Type 0 where
+  failed : ℕ → Forks S
+  forked : Walk → Walk → S → Forks S
+
+module _ {S A : Type 0} where
+  abbrev pub byLook : Look S → (ℕ → A) → A → (S → A) → A → A → A
+  byLook (halts k) h l g f j = h k
+  byLook last h l g f j = l
+  byLook (goes s) h l g f j = g s
+  byLook forks h l g f j = f
+  byLook joins h l g f j = j
+
+  unfoldable pub byOutcome : Outcome S → (ℕ → A) → (Walk → S → A) → A
+  byOutcome (refused k) r e = r k
+  byOutcome (ended p s) r e = e p s
+
+  abbrev pub byForks : Forks S → (ℕ → A) → (Walk → Walk → S → A) → A
+  byForks (failed k) r e = r k
+  byForks (forked a b s) r e = e a b s
+
+-- the number where it isn't 0, else the rest
+unfoldable pub unless : {S : Type 0} → ℕ → Forks S → Forks S
+unless zero rest = rest
+unless (suc k) rest = failed (suc k)
+
+module _ {S : Type 0} (M : Walkable S) (limit : ℕ) where
+  -- at a qif with n nodes made and u cycles used: 23 where the limit is, or where two nodes more would be above 511
+  abbrev pub opening : ℕ → ℕ → ℕ
+  opening n u = pick (leb limit u) 23 (pick (ltb 509 n) 23 0)
+
+  -- at the fiq of branch 0, in s₀, of the qif at s: 18, 23, 24
+  abbrev pub closing : S → ℕ → S → ℕ
+  closing s u s₀ = pick (M .lands s₀) 18 (pick (leb limit u) 23 (pick (M .holds s 0 s₀) 0 24))
+
+  -- at the fiq of branch 1, in s₁: 18, 23, also where one node more would be above 511, and 24
+  abbrev pub meeting : S → ℕ → ℕ → S → S → ℕ
+  meeting s n u s₀ s₁ =
+      pick (M .lands s₁) 18
+      (pick (leb limit u) 23
+      (pick (ltb 510 n) 23
+      (pick (M .holds s 1 s₁)
+      (pick (M .same (M .after s s₀) (M .after s s₁)) 0 24) 24)))
+
+  -- a qif at s, over what a branch does: branch 0, and branch 1 from the same state
+  unfoldable pub forkBy : (ℕ → ℕ → S → Outcome S) → ℕ → ℕ → S → Forks S
+  forkBy branch n u s =
+      unless (opening n u)
+      (byOutcome (branch (n + 2) (u + 1) (M .on (M .coined s 0))) failed λ a s₀.
+      unless (closing s (u + 1 + used a) s₀)
+      (byOutcome (branch (n + 2 + size a) (u + 1 + used a + 1) (M .on (M .coined s 1))) failed λ b s₁.
+      unless (meeting s (n + 2 + size a + size b) (u + 1 + used a + 1 + used b) s₀ s₁)
+      (forked a b (M .after s s₀))))
+
+  -- a branch, over what a qif does: p is the walk so far, from n nodes made and u cycles used
+  unfoldable pub walkBy : (ℕ → ℕ → S → Forks S) → Bool → ℕ → ℕ → ℕ → Walk → S → Outcome S
+  walkBy qif inside zero n u p s = refused 23
+  walkBy qif inside (suc f) n u p s =
+      byLook (M .look s)
+      refused
+      (pick inside (refused 12) (ended p s))
+      (λ s₁. pick (ltb (u + used p) limit) (walkBy qif inside f n u (step p) s₁) (refused 23))
+      (byForks (qif (n + size p) (u + used p) s) refused (λ a b s₁. walkBy qif inside f n u (fork p a b) s₁))
+      (pick inside (ended p s) (refused 17))
+
+  -- a qif by the nesting that is left, and a branch, whose walk is no longer than the limit
+  unfoldable pub forkAt : ℕ → ℕ → ℕ → S → Forks S
+  forkAt zero n u s = failed 23
+  forkAt (suc nest) n u s = forkBy (λ n u s. walkBy (forkAt nest) true (suc limit) n u begin s) n u s
+
+  abbrev pub branchAt : ℕ → Bool → ℕ → ℕ → S → Outcome S
+  branchAt nest inside n u s = walkBy (forkAt nest) inside (suc limit) n u begin s

@@ -1,0 +1,112 @@
+-- What the parts of the maker promise (src/look.rt, src/walk.rt): of registers, memory and table that they hold or are lent.
+use Prim.Native.Nat.{ℕ, zero, suc, _+_, _-_, _≤_, _<_}
+use mathlib.Core.Path.{_≡_}
+use mathlib.Core.Bool.{Bool, false, _&&_}
+use mathlib.Core.List.{List, [], _∷_}
+use lib.Dec.{eqb, ltb, leb}
+use lib.ListN.{getD, set}
+use Rattle.word.specs.Word.{pick}
+use Rattle.qins.specs.Decode.{decode}
+use Rattle.step.specs.declared.Direction.the-variants.{Forward}
+use Rattle.step.specs.declared.Status.{Status}
+use Rattle.step.specs.View.{View}
+use Rattle.step.specs.Step.{shifted}
+use Rattle.machine.specs.Turn.{stride, finishes}
+use Rattle.maker.specs.declared.Kind.{Kind}
+use Rattle.maker.specs.declared.Kind.the-variants.{Plain}
+use Rattle.maker.specs.declared.Seen.{Seen}
+use Rattle.maker.specs.declared.Seen.the-variants.{Halts, Last, Goes, Forks as AtFork, Joins}
+use Rattle.maker.specs.declared.Walked.{Walked}
+use Rattle.maker.specs.Walk.{Walk, size, used, cycles, ending, drawn, forkSize, forkUsed, forkCycles, forkDrawn}
+use Rattle.maker.specs.Walkable.{Look}
+use Rattle.maker.specs.Walkable.Look.{halts, last, goes, forks, joins}
+use Rattle.maker.specs.Making.{Outcome, Forks}
+use Rattle.maker.specs.Making.Outcome.{refused, ended}
+use Rattle.maker.specs.Making.Forks.{failed, forked}
+use Rattle.maker.specs.Idle.{idleOp, kindOf, coinOf, lands}
+
+-- ---- views without node and wait count
+
+abbrev pub statusAt : ℕ → ℕ → Status
+statusAt k m = record { qifv = 0; qifw = 0; k = k; m = m; n = 0 }
+
+abbrev pub viewAt : ℕ → ℕ → List ℕ → List ℕ → View
+viewAt k m regs mem = record { at = statusAt k m; regs = regs; memory = mem }
+
+-- pc moved on; register a set before that, or after it
+abbrev pub movedOn : List ℕ → List ℕ
+movedOn l = set l 0 (shifted Forward (getD l 0 0) (stride (getD l 1 0)))
+
+abbrev pub entered : List ℕ → ℕ → ℕ → List ℕ
+entered l a x = movedOn (set l a x)
+
+abbrev pub left : List ℕ → ℕ → ℕ → List ℕ
+left l a x = set (movedOn l) a x
+
+-- ---- one word: what stands there, with the turn made where it leads on; registers l and memory z at exit, memory m at entry
+
+abbrev pub Looks : ℕ → ℕ → List ℕ → Seen → Look View → List ℕ → List ℕ → Type 0
+Looks k w m (Halts n) o l z = (o ≡ halts n) × ¬ (n ≡ 0)
+Looks k w m Last o l z = (o ≡ last) × (z ≡ m)
+Looks k w m Goes o l z = o ≡ goes (viewAt k w l z)
+Looks k w m AtFork o l z = (o ≡ forks) × (z ≡ m)
+Looks k w m Joins o l z = (o ≡ joins) × (z ≡ m)
+
+-- the register that the qif or fiq at pc names
+abbrev pub coinIn : List ℕ → List ℕ → ℕ
+coinIn l z = coinOf (kindOf (idleOp (getD z (getD l 0 0) 0)))
+
+-- pc is in the code, not at finish, and not at a qif or fiq
+abbrev pub Simple : List ℕ → List ℕ → ℕ → Type 0
+Simple l z k = (getD l 0 0 < k) × (finishes z (getD l 0 0) ≡ false) × (kindOf (decode (getD z (getD l 0 0) 0)) ≡ Plain)
+
+-- ---- sizes: those that 10 would not refuse, with a memory of exactly M words; and room for the nestings left
+
+abbrev pub Sized : ℕ → ℕ → ℕ → Type 0
+Sized k m n = (0 < k) × (k ≤ m) × (m ≤ 8192) × (n ≡ m)
+
+unfoldable pub Room : ℕ → ℕ → ℕ → Type 0
+Room zero m l = Unit {0}
+Room (suc nest) m l = (m ≤ l) × Room nest m (l - m)
+
+-- ---- answers
+
+abbrev pub zeroRegs : List ℕ
+zeroRegs = 0 ∷ 0 ∷ 0 ∷ 0 ∷ 0 ∷ 0 ∷ 0 ∷ 0 ∷ 0 ∷ 0 ∷ 0 ∷ 0 ∷ 0 ∷ 0 ∷ 0 ∷ 0 ∷ []
+
+abbrev pub refusedBy : ℕ → Walked
+refusedBy k = record { refusal = k; regs = zeroRegs; used = 0; cycles = 0; nodes = 0; node = 0 }
+
+abbrev pub walkedAt : List ℕ → ℕ → ℕ → ℕ → ℕ → Walked
+walkedAt s u c n v = record { refusal = 0; regs = s; used = u; cycles = c; nodes = n; node = v }
+
+-- after the walk p from node v, with n nodes made and u cycles used before it
+abbrev pub walkedOf : ℕ → ℕ → ℕ → Walk → List ℕ → Walked
+walkedOf v n u p s = walkedAt s (u + used p) (cycles p) (n + size p) (ending p v n)
+
+-- of a branch: r, the table l and the memory z at exit; k and w are K and M; table and memory are free after a refusal
+abbrev pub Shown : ℕ → ℕ → Outcome View → ℕ → ℕ → ℕ → List ℕ → Walked → List ℕ → List ℕ → Type 0
+Shown k w (refused i) v n u t r l z = (r ≡ refusedBy i) × ¬ (i ≡ 0)
+Shown k w (ended p x) v n u t r l z = (r ≡ walkedOf v n u p (r .regs)) × (l ≡ drawn p v n t) × (x ≡ viewAt k w (r .regs) z)
+
+-- of a qif
+abbrev pub ShownFork : ℕ → ℕ → Forks View → ℕ → ℕ → ℕ → List ℕ → Walked → List ℕ → List ℕ → Type 0
+ShownFork k w (failed i) v n u t r l z = (r ≡ refusedBy i) × ¬ (i ≡ 0)
+ShownFork k w (forked a b x) v n u t r l z =
+    (r ≡ walkedAt (r .regs) (u + forkUsed a b) (forkCycles a b) (n + forkSize a b) (n + forkSize a b)) × (l ≡ forkDrawn v n a b t) × (x ≡ viewAt k w (r .regs) z)
+
+-- ---- the tests of a qif whose register is a
+
+abbrev pub openingOf : ℕ → ℕ → ℕ → ℕ
+openingOf limit n u = pick (leb limit u) 23 (pick (ltb 509 n) 23 0)
+
+abbrev pub heldOf : ℕ → ℕ → List ℕ → List ℕ → Bool
+heldOf a x l z = eqb a (coinIn l z) && eqb (getD l (coinIn l z) 0) x
+
+unfoldable pub closingOf : ℕ → ℕ → ℕ → ℕ → ℕ → List ℕ → List ℕ → ℕ
+closingOf k m limit a u l z = pick (lands (viewAt k m l z)) 18 (pick (leb limit u) 23 (pick (heldOf a 0 l z) 0 24))
+
+-- e: registers and memory are the same
+unfoldable pub meetingOf : ℕ → ℕ → ℕ → ℕ → ℕ → ℕ → List ℕ → List ℕ → Bool → ℕ
+meetingOf k m limit a n u l z e =
+    pick (lands (viewAt k m l z)) 18 (pick (leb limit u) 23 (pick (ltb 510 n) 23 (pick (heldOf a 1 l z) (pick e 0 24) 24)))
