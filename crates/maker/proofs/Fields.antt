@@ -82,3 +82,22 @@ idle-kind w = go (eqb (opcode w) 32) (eqb (opcode w) 33) refl refl
     go true y e f = gate 32 e refl
     go false true e f = gate 33 f refl
     go false false e f = refl
+
+-- ---- as the code finds it; t: the word names reg1 alone
+
+module _ (w : ℕ) (t : Bool) (h : t ≡ (bare (low w) && namesOne (reg1 w) (reg2 w))) where
+  kind-is : kindBy (opcode w) (reg1 w) t ≡ kindOf (idleOp w)
+  kind-is = ap (kindBy (opcode w) (reg1 w)) h ∙ sym (idle-kind w ∙ decode-kind w)
+
+  pub opens : (eqb (opcode w) 24 && t) ≡ true → Opens (reg1 w) ≡ kindOf (idleOp w)
+  opens e = sym (ap (λ (b : Bool). pick b (Opens (reg1 w)) (pick (eqb (opcode w) 25 && t) (Closes (reg1 w)) Plain)) e) ∙ kind-is
+
+  module _ (e : (eqb (opcode w) 24 && t) ≡ false) where
+    rest-is : pick (eqb (opcode w) 25 && t) (Closes (reg1 w)) Plain ≡ kindOf (idleOp w)
+    rest-is = sym (ap (λ (b : Bool). pick b (Opens (reg1 w)) (pick (eqb (opcode w) 25 && t) (Closes (reg1 w)) Plain)) e) ∙ kind-is
+
+    pub closes : (eqb (opcode w) 25 && t) ≡ true → Closes (reg1 w) ≡ kindOf (idleOp w)
+    closes f = sym (ap (λ (b : Bool). pick b (Closes (reg1 w)) Plain) f) ∙ rest-is
+
+    pub neither : (eqb (opcode w) 25 && t) ≡ false → Plain ≡ kindOf (idleOp w)
+    neither f = sym (ap (λ (b : Bool). pick b (Closes (reg1 w)) Plain) f) ∙ rest-is

@@ -178,3 +178,7 @@ module _ (k m : ℕ) (l z : List ℕ) where
 
     pub look-plain : kindOf (idleOp word) ≡ Plain → lookAt (viewAt k m l z) ≡ plain (idleOp word) (viewAt k m l z)
     look-plain e = by-kind Plain e
+
+pub as-op : (k m : ℕ) (l z : List ℕ) (r : Seen) (o p : Op) (l′ z′ : List ℕ) → o ≡ p → Looks k m z r (plain o (viewAt k m l z)) l′ z′
+    → Looks k m z r (plain p (viewAt k m l z)) l′ z′
+as-op k m l z r o p l′ z′ e h = subst (λ (q : Op). Looks k m z r (plain q (viewAt k m l z)) l′ z′) e h

@@ -1,0 +1,19 @@
+use mathlib.Core.Path.{sym, _∙_}
+use borrow.Author.Tests.{le-leb, lt-leb}
+use Rattle.maker.specs.Parts.{closingOf}
+use borrow.Author.Needs.{needs}
+use Rattle.maker.proofs.walk.closing.Statement.{statement}
+use Rattle.maker.proofs.walk.closing.Tie as tie
+
+pub closing-spec : {M : Type 1} → statement M
+unfolding closingOf
+closing-spec =
+    tie.close
+    (tie.spec
+    (λ c. search needs)
+    (λ c κs. search needs)
+    (λ c. rw (sym ((c .before .is-before-start) .ensures) ∙ (c .if1) .taken))
+    (λ c. rw (sym ((c .before .before .before .is-before-start) .ensures) ∙ (c .before .before .if1) .left, le-leb _ _ ((c .if2) .taken)))
+    (λ c κs. search needs)
+    (λ c. rw (sym ((c .before .before .before .before .before .is-before-start) .ensures) ∙ (c .before .before .before .before .if1) .left, lt-leb _ _ ((c .before .before .if2) .left), sym ((c .before .holds) .ensures) ∙ (c .if3) .taken))
+    (λ c. rw (sym ((c .before .before .before .before .before .is-before-start) .ensures) ∙ (c .before .before .before .before .if1) .left, lt-leb _ _ ((c .before .before .if2) .left), sym ((c .before .holds) .ensures) ∙ (c .if3) .left)))
