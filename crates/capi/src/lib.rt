@@ -11,12 +11,14 @@ ghost use Rattle.qins.specs.Decode.{isInstruction};
 ghost use Rattle.image.specs.Load.{LoadPromise, prefaceOf};
 ghost use Rattle.image.specs.Save.{SavePromise};
 ghost use Rattle.image.specs.Check.{checkOf, checkNodeOf};
+ghost use Rattle.maker.specs.Make.{MakePromise};
 use image::Checked;
 use image::Loaded;
 use machine::Batch;
 use machine::Preview;
 use machine::Record;
 use machine::Turned;
+use maker::Made;
 use wheel::Wheeled;
 
 // 1 where the word is an instruction, else 0.
@@ -116,4 +118,17 @@ pub extern "C" fn crank_check_node(r: Record, node: u32, mem: &[u32], table: &[u
     ensures { λ a. ⌜ a ≡ checkNodeOf r node (now (mem .entry)) (now (table .entry)) ⌝ }
 {
     image::check_node(r, node, mem, table)
+}
+
+#[no_mangle]
+pub extern "C" fn crank_make_table(
+    r: Record,
+    limit: u32,
+    mem: &mut [u32],
+    table: &mut [u32],
+    scratch: &mut [u32],
+) -> Made
+    ensures { λ a. ⌜ MakePromise r limit (now (mem .entry)) (now (table .entry)) (now (scratch .entry)) a (now (mem .exit)) (now (table .exit)) (now (scratch .exit)) ⌝ }
+{
+    maker::make(r, limit, mem, table, scratch)
 }

@@ -16,3 +16,4 @@ pub mod Copies
 pub mod Loops
 pub mod Forking
 pub mod Wholes
+pub mod Call

@@ -1,0 +1,104 @@
+-- The call around the walk: what an accepted start gives, and what is promised of either end. Assumes nothing.
+use mathlib.Core.Path.{_≡_, refl, sym, ap, ap₂, _∙_, subst}
+use mathlib.Core.Bool.{Bool, true, false, not, _&&_}
+use mathlib.Core.List.{List, _++_}
+use Prim.Native.Nat.{ℕ, suc, _*_, _<_, _≤_}
+use native.Mathlib.Omega.{arith}
+use lib.Dec.{eqb, ltb, leb}
+use lib.ListN.{length, getD, take, drop, take-append-drop, length-take}
+use lib.Seq.{length-take-le, drop-append-seam}
+use borrow.Author.Tests.{ltb-true, leb-true, eqb-true, ne-eqb, not-false}
+use Rattle.word.specs.Word.{pick}
+use Rattle.step.specs.Sizes.{inRange, isEnough, badSizes}
+use Rattle.step.specs.View.{nodes}
+use Rattle.machine.specs.Turn.{starts}
+use Rattle.machine.specs.declared.Record.{Record}
+use Rattle.machine.specs.Calls.{statusOf, wrongSizes}
+use Rattle.maker.specs.declared.Made.{Made}
+use Rattle.maker.specs.Making.{branchAt}
+use Rattle.maker.specs.Idle.{machine}
+use Rattle.maker.specs.Parts.{viewAt, Sized}
+use Rattle.maker.specs.Make.{mostWords, scratchWords, isReady, refusalOf, outcomeOf, madeAs, answerOf, drawnBy, MakePromise}
+use Rattle.maker.proofs.Choices.{both-true}
+use Rattle.maker.proofs.Counts.{not-first}
+
+-- ---- what a start that is not refused gives
+
+pub record Ready (r : Record) (mem table scratch : List ℕ) : Type 0 where
+  pub sizes : wrongSizes r mem table ≡ false
+  pub code : (0 < r .k) × (r .k ≤ r .m) × (r .m ≤ 8192)
+  pub words : r .m ≤ length mem
+  pub wait : r .qifw ≡ 0
+  pub nodes : 4599 ≤ length table
+  pub room : 16 * r .m ≤ length scratch
+
+not-second : (x : Bool) (k : ℕ) → pick x 0 (suc k) ≡ 0 → x ≡ true
+not-second true k e = refl
+not-second false k e = absurd (omega (arith, e))
+
+shorter : (m : ℕ) (l : List ℕ) → length (take m l) ≤ length l
+shorter m l = omega (arith, length-take m l)
+
+pub ready : (r : Record) (mem table scratch : List ℕ) → refusalOf r mem table scratch ≡ 0 → Ready r mem table scratch
+unfolding badSizes inRange
+ready r mem table scratch e =
+    let w = not-first (wrongSizes r mem table) 9 (pick (isReady r mem table scratch) 0 22) e in
+    let q₀ : Bool = leb (r .m) (length (take (r .m) mem)) && leb (9 * r .n) (length (nodes (statusOf r) table)) in
+    let p₃ : Bool = leb (r .m) 8192 && leb (r .n) 511 in
+    let p₂ : Bool = leb (r .k) (r .m) && p₃ in
+    let a = both-true (ltb 0 (r .k) && p₂) q₀ (not-false _ (w .0)) in
+    let b = both-true (ltb 0 (r .k)) p₂ (a .0) in
+    let c = both-true (leb (r .k) (r .m)) p₃ (b .1) in
+    let d = both-true (leb (r .m) 8192) (leb (r .n) 511) (c .1) in
+    let f = both-true (leb (r .m) (length (take (r .m) mem))) _ (a .1) in
+    let r₄ : Bool = leb mostWords (length table) && leb (scratchWords r) (length scratch) in
+    let r₃ : Bool = eqb (r .qifw) 0 && r₄ in
+    let r₂ : Bool = eqb (r .n) 0 && r₃ in
+    let g = both-true (starts (statusOf r) (take (r .m) mem) (getD (r .regs) 0 0)) r₂ (not-second _ 21 (w .1)) in
+    let h = both-true (eqb (r .qifw) 0) r₄ (both-true (eqb (r .n) 0) r₃ (g .1) .1) in
+    let i = both-true (leb mostWords (length table)) (leb (scratchWords r) (length scratch)) (h .1) in
+    record {
+      sizes = w .0;
+      code = (ltb-true 0 (r .k) (b .0), leb-true (r .k) (r .m) (c .0), leb-true (r .m) 8192 (d .0));
+      words = omega (arith, leb-true (r .m) (length (take (r .m) mem)) (f .0), shorter (r .m) mem);
+      wait = eqb-true (r .qifw) 0 (h .0);
+      nodes = leb-true 4599 (length table) (i .0);
+      room = leb-true (16 * r .m) (length scratch) (i .1);
+    }
+
+module _ (r : Record) (limit : ℕ) (mem table scratch : List ℕ) where
+  pub sized-front : Ready r mem table scratch → Sized (r .k) (r .m) (length (take (r .m) mem))
+  sized-front h = (h .code .0, h .code .1, h .code .2, length-take-le (r .m) mem (h .words))
+
+  -- ---- 10 and 22
+
+  pub refused-promise : (n : ℕ) (a : Made) → n ≡ refusalOf r mem table scratch → ¬ (n ≡ 0) → a ≡ madeAs n 0 r
+      → MakePromise r limit mem table scratch a mem table scratch
+  refused-promise n a e h q =
+      let no : eqb (refusalOf r mem table scratch) 0 ≡ false = ne-eqb (refusalOf r mem table scratch) 0 (λ z. h (e ∙ z)) in
+      record {
+        answer = q ∙ (ap (λ (i : ℕ). madeAs i 0 r) e ∙ sym (ap (λ (b : Bool). pick b (answerOf r (outcomeOf r limit mem)) (madeAs (refusalOf r mem table scratch) 0 r)) no));
+        memory = refl;
+        drawn = sym (ap (λ (b : Bool). pick b (drawnBy (outcomeOf r limit mem) ++ drop mostWords table) table) no);
+        behind = refl;
+        untouched = λ z. refl;
+      }
+
+  -- ---- the walk, over the fronts
+
+  pub made-promise : refusalOf r mem table scratch ≡ 0 → (a : Made) (m t s : List ℕ)
+      → a ≡ answerOf r (branchAt machine limit 8 false 1 0 (viewAt (r .k) (r .m) (r .regs) (take (r .m) mem)))
+      → t ≡ drawnBy (branchAt machine limit 8 false 1 0 (viewAt (r .k) (r .m) (r .regs) (take (r .m) mem)))
+      → m ≡ take (r .m) mem → length s ≡ 16 * r .m
+      → MakePromise r limit mem table scratch a (m ++ drop (r .m) mem) (t ++ drop mostWords table) (s ++ drop (scratchWords r) scratch)
+  unfolding outcomeOf
+  made-promise e a m t s p q f l =
+      let yes : eqb (refusalOf r mem table scratch) 0 ≡ true = ap (λ (i : ℕ). eqb i 0) e in
+      record {
+        answer = p ∙ sym (ap (λ (b : Bool). pick b (answerOf r (outcomeOf r limit mem)) (madeAs (refusalOf r mem table scratch) 0 r)) yes);
+        memory = ap (λ (x : List ℕ). x ++ drop (r .m) mem) f ∙ take-append-drop (r .m) mem;
+        drawn = ap (λ (x : List ℕ). x ++ drop mostWords table) q
+            ∙ sym (ap (λ (b : Bool). pick b (drawnBy (outcomeOf r limit mem) ++ drop mostWords table) table) yes);
+        behind = ap (λ (i : ℕ). drop i (s ++ drop (scratchWords r) scratch)) (sym l) ∙ drop-append-seam s (drop (scratchWords r) scratch);
+        untouched = λ h. absurd (h e);
+      }
