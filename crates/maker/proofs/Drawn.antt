@@ -19,14 +19,14 @@ use Rattle.maker.proofs.Choices.{Links, Holds}
 
 -- ---- words
 
-abbrev word : List ℕ → ℕ → ℕ → ℕ
+abbrev pub word : List ℕ → ℕ → ℕ → ℕ
 word t u i = getD t (9 * (u - 1) + i) 0
 
 -- word i of u, and not word j of v
 abbrev Off : ℕ → ℕ → ℕ → ℕ → Type 0
 Off v j u i = (1 ≤ u) × (i < 9) × (u ≡ v → i ≡ j → ⊥)
 
-other : (t : List ℕ) (v j x u i : ℕ) → 1 ≤ v → j < 9 → Off v j u i → word (put t v j x) u i ≡ word t u i
+pub other : (t : List ℕ) (v j x u i : ℕ) → 1 ≤ v → j < 9 → Off v j u i → word (put t v j x) u i ≡ word t u i
 unfolding put
 other t v j x u i hv hj h =
     getD-set-other t (9 * (v - 1) + j) (9 * (u - 1) + i) x 0 (λ e. let a : 1 ≤ u = h .0 in let b : i < 9 = h .1 in h .2 (omega arith) (omega arith))
@@ -39,24 +39,24 @@ put-long : (t : List ℕ) (v j x : ℕ) → length (put t v j x) ≡ length t
 unfolding put
 put-long t v j x = length-set t (9 * (v - 1) + j) x
 
-pair-long : (t : List ℕ) (v f u g : ℕ) → length (pair t v f u g) ≡ length t
+pub pair-long : (t : List ℕ) (v f u g : ℕ) → length (pair t v f u g) ≡ length t
 unfolding pair
 pair-long t v f u g = put-long (put t v f u) u g v ∙ put-long t v f u
 
 -- neither of two words
-abbrev Off₂ : ℕ → ℕ → ℕ → ℕ → ℕ → ℕ → Type 0
+abbrev pub Off₂ : ℕ → ℕ → ℕ → ℕ → ℕ → ℕ → Type 0
 Off₂ v f x g u i = (1 ≤ u) × (i < 9) × (u ≡ v → i ≡ f → ⊥) × (u ≡ x → i ≡ g → ⊥)
 
 module _ (t : List ℕ) (v f x g : ℕ) (hv : 1 ≤ v) (hx : 1 ≤ x) (hf : f < 9) (hg : g < 9) where
-  pair-other : (u i : ℕ) → Off₂ v f x g u i → word (pair t v f x g) u i ≡ word t u i
+  pub pair-other : (u i : ℕ) → Off₂ v f x g u i → word (pair t v f x g) u i ≡ word t u i
   unfolding pair
   pair-other u i h = other (put t v f x) x g v u i hx hg (h .0, h .1, h .3) ∙ other t v f x u i hv hf (h .0, h .1, h .2)
 
-  pair-there : f ≢ g → 9 * v ≤ length t → word (pair t v f x g) v f ≡ x
+  pub pair-there : f ≢ g → 9 * v ≤ length t → word (pair t v f x g) v f ≡ x
   unfolding pair
   pair-there d r = other (put t v f x) x g v v f hx hg (hv, hf, λ p q. d q) ∙ same t v f x hv hf r
 
-  pair-back : 9 * x ≤ length t → word (pair t v f x g) x g ≡ v
+  pub pair-back : 9 * x ≤ length t → word (pair t v f x g) x g ≡ v
   unfolding pair
   pair-back r = same (put t v f x) x g v hx hg (subst (λ (n : ℕ). 9 * x ≤ n) (sym (put-long t v f x)) r)
 
@@ -145,7 +145,7 @@ module _ (v a b e f m x y : ℕ) (t : List ℕ) (hv : 1 ≤ v) (ha : 1 ≤ a) (h
     pub at-f : u ≡ f → i ≢ 5
     pub at-m : u ≡ m → i ≢ 7
 
-  stays : (u i : ℕ) → Apart u i → word (linked v a b e f m x y t) u i ≡ word t u i
+  pub stays : (u i : ℕ) → Apart u i → word (linked v a b e f m x y t) u i ≡ word t u i
   stays u i h =
       ap (λ (l : List ℕ). word l u i) (sym is-linked)
       ∙ (o₇ u i (h .node, h .field, λ p q. h .at-b p .1 q)
@@ -269,14 +269,14 @@ module _ (v a b e f m x y : ℕ) (t : List ℕ) (hv : 1 ≤ v) (ha : 1 ≤ a) (h
 
 -- ---- where a walk ends
 
-upper : (q : Walk) (v n : ℕ) → v ≤ n → ending q v n ≤ n + size q
+pub upper : (q : Walk) (v n : ℕ) → v ≤ n → ending q v n ≤ n + size q
 unfolding ending size
 upper begin v n h = omega arith
 upper (step p) v n h = upper p v n h
 upper (fork p a b) v n h = omega arith
 
 -- at v, or at a node made since
-new : (q : Walk) (v n : ℕ) → v ≤ n → (v ≤ ending q v n) × (ending q v n ≤ n → ending q v n ≡ v)
+pub new : (q : Walk) (v n : ℕ) → v ≤ n → (v ≤ ending q v n) × (ending q v n ≤ n → ending q v n ≡ v)
 unfolding ending size
 new begin v n h = (omega arith, λ k. refl)
 new (step p) v n h = new p v n h
@@ -294,28 +294,28 @@ module _ (a b : Walk) (n : ℕ) where
   abbrev f : ℕ
   f = ending b (n + 2) (n + 2 + size a)
 
-  e-low : n + 1 ≤ ending a (n + 1) (n + 2)
+  pub e-low : n + 1 ≤ ending a (n + 1) (n + 2)
   e-low = new a (n + 1) (n + 2) (omega arith) .0
 
-  e-high : ending a (n + 1) (n + 2) ≤ n + 2 + size a
+  pub e-high : ending a (n + 1) (n + 2) ≤ n + 2 + size a
   e-high = upper a (n + 1) (n + 2) (omega arith)
 
-  e-off : ending a (n + 1) (n + 2) ≢ n + 2
+  pub e-off : ending a (n + 1) (n + 2) ≢ n + 2
   e-off q = let z = new a (n + 1) (n + 2) (omega arith) .1 (omega (arith, q)) in omega (arith, q, z)
 
-  f-low : n + 2 ≤ ending b (n + 2) (n + 2 + size a)
+  pub f-low : n + 2 ≤ ending b (n + 2) (n + 2 + size a)
   f-low = new b (n + 2) (n + 2 + size a) (omega arith) .0
 
-  f-high : ending b (n + 2) (n + 2 + size a) ≤ n + 2 + size a + size b
+  pub f-high : ending b (n + 2) (n + 2 + size a) ≤ n + 2 + size a + size b
   f-high = upper b (n + 2) (n + 2 + size a) (omega arith)
 
   -- at the start of branch 1, or past all nodes of branch 0
-  f-off : (u : ℕ) → u ≤ n + 2 + size a → u ≢ n + 2 → u ≢ ending b (n + 2) (n + 2 + size a)
+  pub f-off : (u : ℕ) → u ≤ n + 2 + size a → u ≢ n + 2 → u ≢ ending b (n + 2) (n + 2 + size a)
   f-off u h d = apart b (n + 2) (n + 2 + size a) u (omega arith) h d
 
 -- ---- a walk from v leaves every other node up to n
 
-keeps : (q : Walk) (v n : ℕ) (t : List ℕ) (u i : ℕ) → 1 ≤ v → v ≤ n → 1 ≤ u → u ≤ n → u ≢ v → i < 9 → word (drawn q v n t) u i ≡ word t u i
+pub keeps : (q : Walk) (v n : ℕ) (t : List ℕ) (u i : ℕ) → 1 ≤ v → v ≤ n → 1 ≤ u → u ≤ n → u ≢ v → i < 9 → word (drawn q v n t) u i ≡ word t u i
 unfolding drawn
 keeps begin v n t u i hv hn hu h d k = refl
 keeps (step p) v n t u i hv hn hu h d k = keeps p v n t u i hv hn hu h d k

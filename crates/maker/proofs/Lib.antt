@@ -4,6 +4,7 @@ pub mod Choices
 pub mod Sound
 pub mod Same
 pub mod Drawn
+pub mod Links
 pub mod Fields
 pub mod Registers
 pub mod Looked
