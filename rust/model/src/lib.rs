@@ -16,13 +16,16 @@ pub mod state;
 
 pub mod cover;
 pub mod damage;
+pub mod idle;
 pub mod preview;
 pub mod program;
 pub mod structured;
 pub mod wheel;
 
+pub mod coins;
 pub mod compare;
 pub mod generate;
+pub mod maker;
 pub mod walks;
 
 pub mod lists;
