@@ -16,7 +16,9 @@ pub mod state;
 
 pub mod cover;
 pub mod damage;
+pub mod forks;
 pub mod idle;
+pub mod multiplexor;
 pub mod preview;
 pub mod program;
 pub mod structured;
