@@ -3,6 +3,7 @@
 
 use crank::calls;
 use crank_model::machine::{self, Batch, Record};
+use crank_model::maker::{self, Made, MakeCall};
 use crank_model::preview::{self, Preview, PreviewCall};
 use crank_model::state::{BatchCall, Turn};
 use crank_model::wheel::{self, SampleCall, Wheeled};
@@ -35,6 +36,9 @@ pub const PREVIEWS: [(&str, [PreviewCall; 2]); 2] = [
     ("model", [preview::forward, preview::back]),
     ("library", [preview_forward, preview_back]),
 ];
+
+/// The makers of a qif table.
+pub const MAKERS: [(&str, MakeCall); 2] = [("model", maker::make_table), ("library", make_table)];
 
 fn given(r: Record) -> crank::Record {
     crank::Record {
@@ -150,6 +154,21 @@ pub fn check(r: Record, mem: &[u32], table: &[u32]) -> (u32, u32) {
 
 pub fn check_node(r: Record, node: u32, mem: &[u32], table: &[u32]) -> u32 {
     calls::check_node(given(r), node, mem, table)
+}
+
+pub fn make_table(
+    r: Record,
+    limit: u32,
+    mem: &mut [u32],
+    table: &mut [u32],
+    scratch: &mut [u32],
+) -> Made {
+    let made = calls::make_table(given(r), limit, mem, table, scratch);
+    Made {
+        refusal: made.refusal,
+        cycles: made.cycles,
+        record: got(made.state),
+    }
 }
 
 /// The lesson bench.

@@ -1,0 +1,175 @@
+//! Walks over a made table, by the model's turns and by the library's: whatever the
+//! coins, they end at finish after the cycles that the answer gives.
+
+use super::proved;
+use super::{bez, machine, nodes_of, Case, Left, FINISH, FIQ, GATE, QIF, START};
+use crank_model::coins::{next_choice, tour, Tour};
+use crank_model::image;
+use crank_model::machine::{self as model, CF, W};
+use crank_model::rng::Rng;
+use crank_model::state::Machine;
+
+/// How many choices of coins are walked: all, if they and their turns are not
+/// more than so many; and if they are, some random ones more.
+pub struct Most {
+    pub choices: usize,
+    pub turns: u64,
+    pub random: usize,
+}
+
+impl Default for Most {
+    fn default() -> Most {
+        Most {
+            choices: 1_024,
+            turns: 100_000,
+            random: 16,
+        }
+    }
+}
+
+/// Walks over the table that the call left; gives how many walks.
+pub fn all_walks(case: &Case, left: &Left, most: &Most, rng: &mut Rng) -> usize {
+    sound(left);
+    let walk = Walks::new(case, left);
+    let (mut walks, mut choice) = (0, Some(Vec::new()));
+    while let Some(coins) = choice {
+        let turns = walks as u64 * u64::from(left.made.cycles);
+        if walks >= most.choices || turns > most.turns {
+            for _ in 0..most.random {
+                let coins: Vec<u32> = (0..200).map(|_| rng.below(2)).collect();
+                walk.with(&coins);
+            }
+            return walks + most.random;
+        }
+        choice = next_choice(&walk.with(&coins));
+        walks += 1;
+    }
+    walks
+}
+
+/// Where walks begin, the cycles that they take, and where they end.
+struct Walks {
+    start: Machine,
+    cycles: u32,
+    end: Machine,
+}
+
+impl Walks {
+    fn new(case: &Case, left: &Left) -> Walks {
+        let mut start = left.machine.clone();
+        start.record = left.made.record;
+        let cycles = left.made.cycles;
+        let end = tour(&start, model::forward, cycles, |_| 0).end;
+        assert_eq!(end.record.position, case.machine.record.position);
+        Walks { start, cycles, end }
+    }
+
+    /// Walks with these coins, and 0 behind their list, by both; gives those that
+    /// were asked for.
+    fn with(&self, coins: &[u32]) -> Vec<u32> {
+        let choose = |qif: usize| coins.get(qif).copied().unwrap_or(0);
+        let [model, library] = [model::forward, proved::forward]
+            .map(|turn| tour(&self.start, turn, self.cycles + 1, choose));
+        self.ends(&model, "model");
+        self.ends(&library, "library");
+        model.coins
+    }
+
+    /// At finish, with every register and every word as after any other walk.
+    fn ends(&self, walk: &Tour, name: &str) {
+        let ended = (walk.refusal, walk.cycles, walk.open);
+        let coins = &walk.coins;
+        let record = &self.start.record;
+        assert_eq!(
+            ended,
+            (12, self.cycles, 0),
+            "{name} with coins {coins:?} from {record:?}"
+        );
+        assert!(walk.end == self.end, "{name} ends otherwise with {coins:?}");
+    }
+}
+
+/// Every link is paired, and only a first child waits, with the other one not.
+fn sound(left: &Left) {
+    let (r, mem, table) = (left.made.record, &left.machine.mem, &left.machine.table);
+    let checks = [image::check, proved::check].map(|check| check(r, mem, table).0);
+    let nodes = nodes_of(left);
+    assert!(checks == [0; 2] || checks == [7; 2], "{checks:?} {nodes:?}");
+    for node in 1..=r.n {
+        let refusal = proved::check_node(r, node, mem, table);
+        assert_eq!(refusal, 0, "{node} of {nodes:?}");
+    }
+    let w = |node: u32| nodes[node as usize - 1][W];
+    for (node, words) in nodes.iter().enumerate() {
+        let [fc0, fc1, ..] = *words;
+        let waits_alone = fc0 == 0 || w(fc0) == 0 || w(fc1) == 0;
+        let first_child = words[CF] != 0 || words[W] == 0;
+        assert!(waits_alone && first_child, "{} of {nodes:?}", node + 1);
+    }
+    assert_eq!(nodes.len() % 3, 1, "{nodes:?}");
+}
+
+/// start, qif r1, a gate that bez goes over with coin 0, fiq r1 and finish: branch 0
+/// takes 3 cycles and branch 1 4.
+const CODE: [u32; 7] = [START, QIF, bez(2), GATE, bez(2), FIQ, FINISH];
+
+/// A table of it: the cf of node 2, and the w of nodes 2 and 3.
+type Drawn = (u32, u32, u32);
+
+/// What walks over a table come to with coin 0 and with coin 1: refusal, cycles.
+fn walked(table: Drawn) -> [(u32, u32); 2] {
+    let (cf, w0, w1) = table;
+    let nodes = [
+        [2, 3, 2, 3, 0, 0, 4, 0, 0],
+        [0, 0, 0, 0, cf, 1, 0, 0, w0],
+        [0, 0, 0, 0, 1, 1, 0, 0, w1],
+        [0, 0, 0, 0, 0, 0, 0, 1, 0],
+    ];
+    let mut at_start = machine(&CODE, &[]);
+    at_start.table = nodes.concat();
+    (at_start.record.n, at_start.record.qifv) = (4, 1);
+    at_start.record.regs[4] = 9;
+    [0, 1].map(|coin| {
+        let [model, library] =
+            [model::forward, proved::forward].map(|turn| tour(&at_start, turn, 50, |_| coin));
+        assert_eq!((&model.end, model.cycles), (&library.end, library.cycles));
+        let restored = if model.open == 0 { 9 } else { coin };
+        assert_eq!(model.end.record.regs[4], restored);
+        (model.refusal, model.cycles)
+    })
+}
+
+/// Waits that do, that are too few, too many and in vain, and a link that is not
+/// there: what the walks over a made table would find.
+#[test]
+fn by_hand() {
+    let tables: [(Drawn, [(u32, u32); 2]); 5] = [
+        ((1, 1, 0), [(12, 6), (12, 6)]),
+        ((1, 0, 0), [(12, 5), (12, 6)]),
+        ((1, 2, 0), [(12, 7), (12, 6)]),
+        ((1, 3, 2), [(12, 8), (12, 8)]),
+        ((0, 1, 0), [(17, 1), (12, 6)]),
+    ];
+    for (table, expected) in tables {
+        assert_eq!(walked(table), expected, "{table:?}");
+    }
+    println!("walks by hand: {} tables", tables.len());
+}
+
+/// Every choice comes once: those of a qif in branch 1 alone are three.
+#[test]
+fn choices() {
+    let walk = |coins: &[u32]| match coins {
+        [1, inner, ..] => vec![1, *inner],
+        [1] => vec![1, 0],
+        _ => vec![0],
+    };
+    let mut found = Vec::new();
+    let mut choice = Some(Vec::new());
+    while let Some(coins) = choice {
+        let made = walk(&coins);
+        choice = next_choice(&made);
+        found.push(made);
+    }
+    assert_eq!(found, [vec![0], vec![1, 0], vec![1, 1]]);
+}
