@@ -7,6 +7,9 @@
 //! slower than a turn, as the model's is. Nothing is turned while they are
 //! measured.
 //!
+//! The last line is about the making of a qif table, of document 003's multiplexor
+//! with three coins.
+//!
 //! Options: `--seconds S`, the time for each figure (default 0.5).
 
 #[path = "../tests/proved/mod.rs"]
@@ -19,6 +22,8 @@ use std::time::{Duration, Instant};
 
 use crank_model::instruction::{word_i, word_o, word_r};
 use crank_model::machine::{self, Record, MAX_M, NODE};
+use crank_model::maker::{self, MakeCall, SCRATCH, TABLE};
+use crank_model::multiplexor::multiplexor;
 use crank_model::preview::{self, PreviewCall};
 use crank_model::state::{BatchCall, Machine, Turn, Way, WAYS};
 use crank_model::wheel::{self, SampleCall};
@@ -296,6 +301,47 @@ fn print_program(name: &str, cranks: &[Crank], found: &[[[f64; 2]; MODES.len()]]
     }
 }
 
+/// The gates of the multiplexor's eight ends, and what the limit counts of it.
+const GATES: [u32; 8] = [0, 1, 1, 2, 1, 2, 2, 3];
+const WALKED: u32 = 3_225;
+
+/// Microseconds for a table; the median call counts.
+fn making(call: MakeCall, time: Duration) -> f64 {
+    let mut machine = multiplexor(&GATES, &[0; 4]);
+    let mut scratch = vec![0; SCRATCH * machine.mem.len()];
+    machine.table = vec![0; TABLE];
+    let mut spent = Vec::new();
+    let begin = Instant::now();
+    while spent.is_empty() || begin.elapsed() < time {
+        let begin = Instant::now();
+        let made = call(
+            black_box(machine.record),
+            WALKED,
+            black_box(&mut machine.mem),
+            black_box(&mut machine.table),
+            black_box(&mut scratch),
+        );
+        spent.push(begin.elapsed());
+        assert_eq!((made.refusal, made.record.n), (0, 22), "no table is made");
+    }
+    spent.sort();
+    spent[spent.len() / 2].as_secs_f64() * 1e6
+}
+
+fn print_making(time: Duration) {
+    let [library, model] = [proved::make_table, maker::make_table].map(|call| making(call, time));
+    let speed = |micros: f64| f64::from(WALKED) / micros;
+    println!(
+        "a qif table of 22 nodes, {WALKED} cycles walked: microseconds; million cycles per second"
+    );
+    println!(
+        "multiplexor make    library {library:.0} us, {:.2}; model {model:.0} us, {:.2}; ratio {:.2}",
+        speed(library),
+        speed(model),
+        model / library
+    );
+}
+
 fn seconds() -> Option<f64> {
     // `cargo bench` adds --bench.
     let args: Vec<String> = env::args().skip(1).filter(|a| a != "--bench").collect();
@@ -331,4 +377,5 @@ fn main() {
     ] {
         print_program(name, &cranks, &figures(&start, time, &cranks));
     }
+    print_making(time);
 }
