@@ -60,6 +60,9 @@ pub const LC: usize = 2;
 pub const NX: usize = 6;
 /// The cycles to wait.
 pub const W: usize = 8;
+/// The cycles that the programs walk to make a table where they are given no limit: the turns of the
+/// crank program.
+pub const MAKE_LIMIT: u32 = 1_000_000;
 /// The registers by name.
 pub const REGISTERS: [&str; 16] = [
     "pc", "br", "ro", "sp", "r1", "r2", "r3", "r4", "r5", "r6", "r7", "r8", "r9", "r10", "r11",

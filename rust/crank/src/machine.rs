@@ -195,16 +195,25 @@ impl Machine {
         calls::check(self.record, &self.mem, &self.table)
     }
 
-    /// Makes the qif table of the code, which must have none yet, with at most `limit` cycles walked, and
-    /// stands at its node 1. Gives the cycles from start to finish over the new table, the same for every
-    /// choice of coins. The registers may be anything, but pc must be at start.
+    /// Looks at the links of one node, whatever the code words are; gives the refusal.
+    pub fn check_node(&self, node: u32) -> u32 {
+        calls::check_node(self.record, node, &self.mem, &self.table)
+    }
+
+    /// Makes the qif table of the code, walking at most `limit` cycles, and stands at its node 1. Gives
+    /// the cycles from start to finish over the new table, the same for every choice of coins. There
+    /// must be no nodes yet, and pc at start; the registers, the memory and the position stay as they
+    /// are.
     ///
     /// # Errors
     ///
     /// The refusal: 10, 22, 23, 24 or that of a turn. The machine is then as it was.
     pub fn make_table(&mut self, limit: u32) -> Result<u32, u32> {
-        let mut table = self.table.clone();
-        table.resize(table.len().max(NODE_WORDS * MAX_NODES), 0);
+        let mut table = match self.record.n {
+            0 => vec![0; NODE_WORDS * MAX_NODES],
+            // Refused, by 10 or 22 as the nodes fit.
+            _ => self.table.clone(),
+        };
         let mut scratch = vec![0; SCRATCH * self.mem.len()];
         let made = calls::make_table(self.record, limit, &mut self.mem, &mut table, &mut scratch);
         if made.refusal != 0 {
@@ -214,10 +223,5 @@ impl Machine {
         self.record = made.state;
         self.table = table;
         Ok(made.cycles)
-    }
-
-    /// Looks at the links of one node, whatever the code words are; gives the refusal.
-    pub fn check_node(&self, node: u32) -> u32 {
-        calls::check_node(self.record, node, &self.mem, &self.table)
     }
 }

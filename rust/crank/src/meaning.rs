@@ -12,6 +12,11 @@ pub enum Call {
     Make,
 }
 
+const NOT_AT_START: &str =
+    "pc is not at start, there are nodes or a wait already, or the lent words are too few";
+const APART: &str = "the branches of a qif do not meet: a fiq names another register, its coin is \
+                     lost, or something else differs";
+
 /// What a refusal means, as a part of a sentence.
 pub fn meaning(refusal: u32, call: Call) -> &'static str {
     match (refusal, call) {
@@ -45,13 +50,9 @@ pub fn meaning(refusal: u32, call: Call) -> &'static str {
         (20, _) => "the sample is above 3",
         (21, Call::Back) => "the position is the smallest",
         (21, _) => "the position is the largest",
-        (22, _) => {
-            "pc is not at start, a table is there, a wait is left, or the lent words are too few"
-        }
-        (23, _) => "more than 511 nodes, a nesting of 8 or the limit of cycles would be needed",
-        (24, _) => {
-            "the branches of a qif do not come together: another register, coin, state or memory"
-        }
+        (22, _) => NOT_AT_START,
+        (23, _) => "over 511 nodes, 8 nested qifs or the limit of cycles would be needed",
+        (24, _) => APART,
         _ => "unknown",
     }
 }

@@ -503,13 +503,14 @@ fn meanings() {
         Call::Load,
         Call::Save,
         Call::Check,
+        Call::Make,
     ];
     for call in calls {
-        for refusal in 0..=21 {
+        for refusal in 0..=24 {
             let said = meaning(refusal, call);
             assert!(said != UNKNOWN && !said.is_empty(), "{refusal} of {call:?}");
         }
-        for refusal in [22, u32::MAX] {
+        for refusal in [25, u32::MAX] {
             assert_eq!(meaning(refusal, call), UNKNOWN, "{refusal} of {call:?}");
         }
     }
@@ -518,9 +519,11 @@ fn meanings() {
         let [forward, back] = [Call::Forward, Call::Back].map(|call| meaning(refusal, call));
         assert_ne!(forward, back, "{refusal}");
     }
-    let nodes = [Call::Forward, Call::Check].map(|call| meaning(17, call));
-    assert_ne!(nodes[0], nodes[1]);
-    println!("machine: 0 to 21 in words, for {} calls", calls.len());
+    let [turn, check, make] =
+        [Call::Forward, Call::Check, Call::Make].map(|call| meaning(17, call));
+    assert!(turn != check && turn != make && check != make);
+    assert_ne!(meaning(12, Call::Forward), meaning(12, Call::Make));
+    println!("machine: 0 to 24 in words, for {} calls", calls.len());
 }
 
 type OnBench = fn(&mut Bench, &mut [u32], &[u32]) -> u32;
