@@ -1,8 +1,11 @@
 //! The image of a source, written by the proved library.
 
-use crate::source::{Source, Word};
+use crate::source::{Making, Place, Source, Word};
 use crate::{warnings, Assembled, Checked, Error, Written};
-use crank::{Machine, MAX_FILE};
+use crank::{meaning, Call, Machine, MAX_FILE};
+
+/// Where a made table begins.
+const ROOT: u32 = 1;
 
 impl Source<'_> {
     /// Resolves everything and writes the image.
@@ -23,11 +26,7 @@ impl Source<'_> {
         Ok(Assembled {
             image: [&self.preface[..], &saved].concat(),
             labels: self.addresses(),
-            nodes: self
-                .nodes
-                .iter()
-                .map(|node| node.name.map(str::to_string))
-                .collect(),
+            nodes: self.node_names(machine.record.n),
             words: words
                 .map(|(word, line)| Written { word: *word, line })
                 .collect(),
@@ -49,7 +48,32 @@ impl Source<'_> {
         for set in &self.settings {
             at(set.line, self.set(set, &mut machine.record))?;
         }
+        if let Some(making) = &self.making {
+            self.make_table(making, &mut machine)?;
+        }
         Ok(machine)
+    }
+
+    /// Makes the table, from the first values that the source sets.
+    fn make_table(&self, making: &Making, machine: &mut Machine) -> Result<(), Error> {
+        let qifv = self.settings.iter().find(|set| set.place == Place::Qifv);
+        if let Some(set) = qifv.filter(|_| machine.record.qifv != ROOT) {
+            let message = "a made table begins at node 1, so .qifv is 1 or left out";
+            return at(set.line, Err(message.into()));
+        }
+        let made = machine.make_table(making.limit).map_err(|refusal| {
+            let why = meaning(refusal, Call::Make);
+            format!("the table is refused by {refusal}: {why}")
+        });
+        at(making.line, made.map(|_| ()))
+    }
+
+    /// None of a made table.
+    fn node_names(&self, n: u32) -> Vec<Option<String>> {
+        let written = self.nodes.iter().map(|node| node.name);
+        let mut names: Vec<_> = written.map(|name| name.map(str::to_string)).collect();
+        names.resize(n as usize, None);
+        names
     }
 
     /// All words, by address.

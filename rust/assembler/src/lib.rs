@@ -73,7 +73,7 @@ pub struct Assembled {
     pub image: Vec<u8>,
     /// Labels and their addresses, in the order of addresses.
     pub labels: Vec<(String, u32)>,
-    /// The name of node i + 1, none where it is written by number.
+    /// The name of node i + 1, none where it is written by number or made.
     pub nodes: Vec<Option<String>>,
     /// The memory words by address.
     pub words: Vec<Written>,

@@ -2,12 +2,15 @@
 
 use crate::forms::{register_number, Form};
 use crate::text::{
-    is_name, leading_label, lines, number, operands, quoted, split_item, split_word,
+    as_count, is_name, leading_label, lines, number, operands, quoted, split_item, split_word,
     without_comment, FROM,
 };
 use crate::{preface, Checked, Error};
-use crank::{Kind, MAX_NODES, MAX_WORDS, REGISTERS};
+use crank::{Kind, MAKE_LIMIT, MAX_NODES, MAX_WORDS, REGISTERS};
 use std::collections::HashMap;
+
+/// Nodes are written, or all are made.
+const BOTH: &str = "a source has .node lines or .table make, not both";
 
 /// A section of the memory, by its place among the words.
 #[derive(Clone, Copy, Default, PartialEq, Eq)]
@@ -30,6 +33,13 @@ pub struct Node<'a> {
     /// None where it is written by number.
     pub name: Option<&'a str>,
     pub fields: &'a str,
+}
+
+/// `.table make`.
+pub struct Making {
+    pub line: usize,
+    /// The most cycles that are walked.
+    pub limit: u32,
 }
 
 /// What a line gives its first value: a register, qifv, qifw or the position.
@@ -59,6 +69,8 @@ pub struct Source<'a> {
     label_places: HashMap<&'a str, usize>,
     pub nodes: Vec<Node<'a>>,
     pub node_numbers: HashMap<&'a str, u32>,
+    /// Where the nodes are not written.
+    pub making: Option<Making>,
     pub settings: Vec<Setting<'a>>,
     pub preface: Vec<u8>,
     /// The number of the last line, where what concerns the whole is reported.
@@ -167,6 +179,7 @@ impl<'a> Source<'a> {
                 .try_for_each(|value| self.push(Word::Value(value))),
             "space" => self.space(rest),
             "node" => self.node(rest),
+            "table" => self.table(rest),
             "reg" => self.register(rest),
             "qifv" if rest.is_empty() => Err(".qifv takes a node, by name or number".into()),
             "qifv" => self.setting(Place::Qifv, rest),
@@ -202,6 +215,9 @@ impl<'a> Source<'a> {
         if fields.is_empty() && rest.ends_with(',') {
             return Err("an operand is missing beside a comma".into());
         }
+        if self.making.is_some() {
+            return Err(BOTH.into());
+        }
         if self.nodes.len() == MAX_NODES {
             return Err(format!("more than {MAX_NODES} nodes"));
         }
@@ -221,6 +237,27 @@ impl<'a> Source<'a> {
             name: (!by_number).then_some(name),
             fields,
         });
+        Ok(())
+    }
+
+    /// `make`, and the limit where one is written.
+    fn table(&mut self, rest: &str) -> Checked<()> {
+        let (make, limit) = split_word(rest);
+        if !make.eq_ignore_ascii_case("make") {
+            return Err(".table takes make, then a limit of cycles or nothing".into());
+        }
+        if self.making.is_some() {
+            return Err(".table make is written twice".into());
+        }
+        if !self.nodes.is_empty() {
+            return Err(BOTH.into());
+        }
+        let limit = match limit {
+            "" => MAKE_LIMIT,
+            _ => as_count(number(limit)?)?,
+        };
+        let line = self.last;
+        self.making = Some(Making { line, limit });
         Ok(())
     }
 

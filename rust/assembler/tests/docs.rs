@@ -24,6 +24,19 @@ fn reads_constant(source: &str) {
     assert_eq!(machine.record.regs[5], 1_000_003);
 }
 
+/// No table can be made of the example, as the document says.
+fn makes_no_table(source: &str) {
+    let (front, table) = source
+        .split_once("        .qifv root\n")
+        .expect("its table");
+    assert_eq!(table.matches(".node").count(), 4);
+    let error = assemble(&format!("{front}        .table make\n")).expect_err("a table");
+    assert!(
+        error.message.starts_with("the table is refused by 24: "),
+        "{error}"
+    );
+}
+
 #[test]
 fn samples() {
     let [constant, source, _output, rows, disassembled] = &blocks()[..] else {
@@ -35,4 +48,5 @@ fn samples() {
     assert_eq!(assembled.image.len(), 7 + 288);
     assert!(listing(source, &assembled).starts_with(rows.as_str()));
     assert_eq!(disassemble(&assembled.image).as_ref(), Ok(disassembled));
+    makes_no_table(source);
 }

@@ -7,7 +7,7 @@ use std::fs;
 use std::path::Path;
 
 /// Pieces that mean something, or look as if they did.
-const PIECES: [&str; 38] = [
+const PIECES: [&str; 40] = [
     "start",
     "bra ",
     "from ",
@@ -43,6 +43,8 @@ const PIECES: [&str; 38] = [
     ".reg ",
     ".position ",
     ".node ",
+    ".table ",
+    ".table make ",
     ".preface \"",
     ".data\n",
     "\u{FEFF}ü\0",
@@ -54,6 +56,7 @@ fn examples() -> Vec<String> {
         "loop.qasm",
         "call.qasm",
         "qif_nested10.qasm",
+        "qif_nested11.qasm",
         "straight.qasm",
     ]
     .map(|name| fs::read_to_string(folder.join(name)).expect("an example"))

@@ -178,6 +178,28 @@ const DIRECTIVES: &[(&str, &str)] = &[
     (".qifv -1", "-1 is out of range: 0 to 4294967295"),
     (".qifw", ".qifw takes a number"),
     (".qifw -1", "-1 is out of range: 0 to 4294967295"),
+    (
+        ".table",
+        ".table takes make, then a limit of cycles or nothing",
+    ),
+    (
+        ".table draw",
+        ".table takes make, then a limit of cycles or nothing",
+    ),
+    (
+        ".table 100",
+        ".table takes make, then a limit of cycles or nothing",
+    ),
+    (
+        ".table make,",
+        ".table takes make, then a limit of cycles or nothing",
+    ),
+    (".table make all", "\"all\" is not a number"),
+    (".table make -1", "-1 is out of range: 0 to 4294967295"),
+    (
+        ".table make 4294967296",
+        "\"4294967296\" is out of range: a word has 32 bits",
+    ),
     (".position", ".position takes a number"),
     (".position start", "\"start\" is not a number"),
     (".position -", "\"-\" is not a number"),

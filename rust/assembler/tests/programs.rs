@@ -208,6 +208,26 @@ fn a_refused_source() {
     assert_eq!(fs::read(folder.path("old.img")).unwrap(), b"old");
 }
 
+#[test]
+fn a_refused_table() {
+    let folder = folder();
+    let endless = "start\nl: bnz r2, from j\naddi r2, 1\nj: bra l\n.table make\n";
+    folder.put("endless.qasm", endless);
+    folder.put("old.img", "old");
+    let line = "line 5: the table is refused by 23: over 511 nodes, 8 nested qifs or the limit of \
+                cycles would be needed";
+    let line = format!("assemble: endless.qasm: {line}");
+    refused(
+        &folder,
+        &[
+            ("assemble endless.qasm", 1, &line),
+            ("assemble --listing endless.qasm", 1, &line),
+            ("assemble -o old.img endless.qasm", 1, &line),
+        ],
+    );
+    assert_eq!(fs::read(folder.path("old.img")).unwrap(), b"old");
+}
+
 /// Places that take no output.
 const OUTPUTS: &[(&str, i32, &str)] = &[
     (
@@ -351,6 +371,7 @@ top:
         .data
         .space 2
         .reg r2 7
+        .table make
 ";
 
 const LISTING: &str = "\
@@ -368,6 +389,7 @@ addr  word       line
    5  00000000     11          .space 2
    6  00000000     11
                    12          .reg r2 7
+                   13          .table make
 ";
 
 #[test]
