@@ -22,17 +22,22 @@
 ;     k = 0 they were not computed and nothing was pushed.
 ;   - Before finish t0 and t1 are loaded into r11 and r12 to be seen.
 ;
+; The assembler makes the table (Figure 19, here for n = 2):
+;   node 1   the outer qif: its children are 2 and 3, and 10 is next
+;   node 2   q[2] = 0, the inner qif: its children are 4 and 5, and 6 is next
+;   node 3   q[2] = 1, the inner qif: its children are 7 and 8, and 9 is next
+;
 ; Waits. Outside Q[x] the two branches of the qif have equally many words. One
 ; gate takes 5 words. Q[0] has 0 gates, Q[1] 1, Q[2] 1, Q[3] 2, so
-;   inner qif after q[2] = 0:  w = 5 in v00 (Q[0]),  w = 0 in v01 (Q[1])
-;   inner qif after q[2] = 1:  w = 5 in v10 (Q[2]),  w = 0 in v11 (Q[3])
+;   inner qif after q[2] = 0:  w = 5 in node 4 (Q[0]),  w = 0 in node 5 (Q[1])
+;   inner qif after q[2] = 1:  w = 5 in node 7 (Q[2]),  w = 0 in node 8 (Q[3])
 ;   outer qif: the branch of 0 now takes 1 gate, that of 1 takes 2:
-;              w = 5 in v0, w = 0 in v1
+;              w = 5 in node 2, w = 0 in node 3
 ; and for all four choices of the coins 736 turns are made: main 32, Pmain 72,
 ; P(2, ..) and P(1, ..) 258 each, P(0, ..) 106, gates and waits 10.
 ;
 ; At the end all data words and sp are as at the beginning, all other registers
-; but pc and r12 are 0, and qifv is node after.
+; but pc and r12 are 0, and qifv is node 10.
 
         ; main program (lines 1-15)
         start
@@ -611,15 +616,4 @@ Q3.end: bra  Q3.beg
 stack:      .space 40
 
         .reg sp stack
-        .qifv root
-        ; qif table (Figure 19, here for n = 2)
-        .node root       fc0=v0 fc1=v1 lc0=v0.after lc1=v1.after nx=after
-        .node v0         cf=root fc0=v00 fc1=v01 lc0=v00 lc1=v01 nx=v0.after w=5
-        .node v1         cf=root fc0=v10 fc1=v11 lc0=v10 lc1=v11 nx=v1.after w=0
-        .node v00        cf=v0 cl=v0 w=5
-        .node v01        cf=v0 cl=v0 w=0
-        .node v10        cf=v1 cl=v1 w=5
-        .node v11        cf=v1 cl=v1 w=0
-        .node v0.after   pr=v0 cl=root
-        .node v1.after   pr=v1 cl=root
-        .node after      pr=root
+        .table make

@@ -21,7 +21,8 @@
 ;
 ; Here r1 = 0 (r2 is 0 and not looked at): six waits at the outer qif. Result:
 ; r3 = 1.
-; The exercises qif_nested0, qif_nested10 and qif_nested11 differ in the coins only.
+; The exercises qif_nested0, qif_nested10 and qif_nested11 differ in the coins only;
+; qif_nested11 has its table made by the assembler, which draws the same one.
 
         start
         qif  r1

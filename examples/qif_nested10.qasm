@@ -20,7 +20,8 @@
 ; stands in out0 and out1.
 ;
 ; Here r1 = 1, r2 = 0: no wait at the outer qif, one at the inner. Result: r4 = 1.
-; The exercises qif_nested0, qif_nested10 and qif_nested11 differ in the coins only.
+; The exercises qif_nested0, qif_nested10 and qif_nested11 differ in the coins only;
+; qif_nested11 has its table made by the assembler, which draws the same one.
 
         start
         qif  r1

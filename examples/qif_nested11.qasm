@@ -5,19 +5,20 @@
 ;   fiq
 ;
 ; Inner qif, words between qif and fiq:
-;   coin 0: b0, one gate, b1, b3              4 words    w = 1 in node in0
-;   coin 1: b0, b2, two gates, b3             5 words    w = 0 in node in1
+;   coin 0: b0, one gate, b1, b3              4 words    w = 1 in node 4
+;   coin 1: b0, b2, two gates, b3             5 words    w = 0 in node 5
 ; so the inner qif takes 1 + 5 + 1 = 7 turns with either coin r2.
 ; Outer qif, turns between qif and fiq:
-;   coin 0: a0, one gate, a1, a3              4 turns    w = 6 in node out0
-;   coin 1: a0, a2, the inner qif (7), a3    10 turns    w = 0 in node out1
+;   coin 0: a0, one gate, a1, a3              4 turns    w = 6 in node 2
+;   coin 1: a0, a2, the inner qif (7), a3    10 turns    w = 0 in node 3
 ; so with any coins the whole program makes 1 + 1 + 10 + 1 = 13 turns and ends
-; at node after.
+; at node 7.
 ;
-; The inner qif starts at node out1 and its fiq leads to node out1.after. That
-; node, not out1, is the last child of root for coin 1: lc1 and fc1 differ.
-; w is read by a qif from the first child, so the wait of an outer branch
-; stands in out0 and out1.
+; The assembler makes the table, from node 1 on, and it is the one that is drawn by
+; hand in qif_nested0 and qif_nested10. The inner qif starts at node 3 and its fiq
+; leads to node 6. That node, not 3, is the last child of node 1 for coin 1: lc1
+; and fc1 differ. w is read by a qif from the first child, so the wait of an outer
+; branch stands in nodes 2 and 3.
 ;
 ; Here r1 = 1, r2 = 1: no wait at all. Result: r5 = r6 = 1.
 ; The exercises qif_nested0, qif_nested10 and qif_nested11 differ in the coins only.
@@ -43,11 +44,4 @@ a3:     bez  r1, from a1      ; coin 0 lands here
 
         .reg  r1 1            ; the outer coin
         .reg  r2 1            ; the inner coin
-        .qifv root
-        .node root       fc0=out0 fc1=out1 lc0=out0 lc1=out1.after nx=after
-        .node out0       cf=root cl=root w=6
-        .node out1       cf=root fc0=in0 fc1=in1 lc0=in0 lc1=in1 nx=out1.after w=0
-        .node in0        cf=out1 cl=out1 w=1
-        .node in1        cf=out1 cl=out1 w=0
-        .node out1.after pr=out1 cl=root
-        .node after      pr=root
+        .table make
