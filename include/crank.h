@@ -1,8 +1,8 @@
 /* The calls of the crank bench for C and C++: QINS on basis states, forward and back.
  *
- * Link libcapi.a for the turns, previews, batches, samples and images, libsession.a for the lesson
- * bench, libprogram.a for the crank program; each is complete, and one program may link all.
- * docs/CALLS.md says how they are built, docs/MANUAL.md what the machine does and, in section 9, what
+ * Link libcapi.a for the turns, previews, batches, samples, images and tables, libsession.a for the
+ * lesson bench, libprogram.a for the crank program; each is complete, and one program may link all.
+ * docs/CALLS.md says how they are built, docs/MANUAL.md what the machine does and, in section 10, what
  * each refusal means. A refusal of 0 is none.
  *
  * A lent slice is a pointer and then its length in elements. The pointer is never null, not even
@@ -82,6 +82,14 @@ typedef struct Checked {
     uint32_t place; /* 7: the code address; 8: the node; else 0 */
 } Checked;
 
+/* What the making of a qif table answers. */
+typedef struct Made {
+    uint32_t refusal;
+    uint32_t cycles; /* of such a walk over the new table, from start to finish and with its waits: the
+                        same for every choice of coins; refused: 0 */
+    Record state;    /* the record given, with the new n and qifv 1; refused: the record given */
+} Made;
+
 /* The lesson bench. Its caller fills in the record, and may read it between calls. */
 typedef struct Bench {
     Record state;
@@ -123,6 +131,9 @@ CRANK_LAYOUT(offsetof(Wheeled, state) == 32, "Wheeled: record last");
 CRANK_LAYOUT(sizeof(Loaded) == 104, "Loaded: a word, one to fill up, and a record");
 CRANK_LAYOUT(offsetof(Loaded, state) == 8, "Loaded: record last");
 CRANK_LAYOUT(sizeof(Checked) == 8, "Checked: 2 words");
+CRANK_LAYOUT(sizeof(Made) == 104, "Made: two words and a record");
+CRANK_LAYOUT(offsetof(Made, cycles) == 4, "Made: refusal first");
+CRANK_LAYOUT(offsetof(Made, state) == 8, "Made: record last");
 CRANK_LAYOUT(sizeof(Bench) == 96, "Bench: a record");
 CRANK_LAYOUT(sizeof(Cranked) == 8, "Cranked: 2 words");
 CRANK_LAYOUT(sizeof(Sampled) == 32, "Sampled: 8 words");
@@ -214,6 +225,27 @@ Checked crank_check(Record r, const uint32_t *mem, size_t mem_len,
  * 0 is unpaired. Where crank_check answers 8, its place is the lowest node for which this call does. */
 uint32_t crank_check_node(Record r, uint32_t node, const uint32_t *mem, size_t mem_len,
                           const uint32_t *table, size_t table_len);
+
+/* ---- Tables: libcapi.a ---- */
+
+/* Makes the qif table of the code: walks it from the start at pc to finish, through both branches of
+ * every qif, from what the registers and mem hold, with uni and unib moving pc alone and the position
+ * still. A qif sets its register to 0 and to 1, whatever it holds, which is back behind its fiq. limit
+ * is on all cycles walked: every word of both branches, the qif once for both; no waits, no finish.
+ *
+ * Accepted: the first 4599 words of table hold the n nodes of the answer, and zeros behind them. mem is
+ * written on the way and ends as it began, refused or not. What the first 16 * m words of scratch then
+ * hold is free; 131072 words are always enough. Behind these table and scratch are never touched.
+ *
+ * Refusals: 10 as in a turn; 22 where n or qifw is above 0, pc is not below k or not at a start, table
+ * is shorter than 4599 words or scratch than 16 * m. After these nothing is written. Then those of the
+ * walk, after which the first 4599 words of table are zeros. At one word the turn's own come first, in
+ * its order: 11, 12 (a finish in a branch), 13, 15, 17 (a fiq in no branch) and 18. Then 23, where over
+ * 511 nodes, 8 nested qifs or limit cycles would be needed. Last 24, where a branch's fiq names another
+ * register than its qif, or that does not hold the branch's coin, or the two branches stand at their
+ * fiq with anything else in registers or mem that differs. */
+Made crank_make_table(Record r, uint32_t limit, uint32_t *mem, size_t mem_len,
+                      uint32_t *table, size_t table_len, uint32_t *scratch, size_t scratch_len);
 
 /* ---- The lesson bench: libsession.a ----
  *

@@ -1,16 +1,18 @@
 /* Images through every call of crank.h: each is loaded, turned forward until it is refused and back
  * again, in single turns, in batches and by samples, by value and on the lesson bench, and must then
  * be what it was. Every single turn is previewed and must come to what the preview says, and every
- * accepted turn moves the position by one. After that come calls that must be refused, and must leave
- * everything as it was, but for samples, whose turns before the refused one stand.
+ * accepted turn moves the position by one. Without its table, each has one made, over which it runs as
+ * many turns as there are cycles. After that come calls that must be refused, and must leave everything
+ * as it was, but for samples, whose turns before the refused one stand, and tables refused on the way,
+ * which are zeros. Last comes a small program with every word of its table.
  *
  * usage: roundtrip IMAGE...
  *
- * An image is of kind 1, stands at a start and runs to a finish. Its file need have no preface: the
- * program puts some before it. It is taken as it is, and as images of kind 2 at several positions. Ends
- * with 1 at the first difference, and also where no image waits, none has a constant among its code, no
- * preview has a memory word that changes or an exchange that changes none, or some refusal was never
- * met.
+ * An image is of kind 1, stands at a start and runs to a finish, and its table is the one that is made.
+ * Its file need have no preface: the program puts some before it. It is taken as it is, and as images
+ * of kind 2 at several positions. Ends with 1 at the first difference, and also where no image waits,
+ * none has a constant among its code, no preview has a memory word that changes or an exchange that
+ * changes none, or some refusal was never met.
  */
 #include <stdio.h>
 #include <stdlib.h>
@@ -28,11 +30,15 @@ Preview crank_preview_back(Record r, const uint32_t *mem, size_t mem_len,
                            const uint32_t *table, size_t table_len);
 uint32_t crank_check_node(Record r, uint32_t node, const uint32_t *mem, size_t mem_len,
                           const uint32_t *table, size_t table_len);
+Made crank_make_table(Record r, uint32_t limit, uint32_t *mem, size_t mem_len,
+                      uint32_t *table, size_t table_len, uint32_t *scratch, size_t scratch_len);
 
 enum {
     MAX_WORDS = 8192,
     MAX_NODES = 511,
     NODE = 9,
+    TABLE = NODE * MAX_NODES, /* words of a made table */
+    SCRATCH = 16, /* words for a memory word, to make one */
     TRAILER = 100, /* of what a save writes */
     OLD_TRAILER = 92,
     MARK = 4, /* its last bytes, which tell the kind */
@@ -52,7 +58,7 @@ typedef struct {
     Bench bench;
     uint32_t mem_len, table_len; /* how much of the words below is lent */
     uint32_t mem[MAX_WORDS + EXCESS];
-    uint32_t table[NODE * MAX_NODES + EXCESS];
+    uint32_t table[TABLE + EXCESS];
 } Machine;
 
 typedef struct {
@@ -64,8 +70,8 @@ typedef struct {
 static const char *image = "", *calls = "";
 
 /* What was covered. */
-static unsigned long turned[2], waited, sampled, refused[22], prefaced, empty, positions,
-    nodes, constants;
+static unsigned long turned[2], waited, sampled, refused[25], prefaced, empty, positions,
+    nodes, constants, tables, made_nodes;
 static struct {
     unsigned long made;
     unsigned long words; /* that would change */
@@ -588,6 +594,192 @@ static void expect_load_refused(const File *file, uint32_t mem_len, uint32_t tab
     refused[number]++;
 }
 
+/* ---- Tables ---- */
+
+/* Makes a table with so much scratch lent: nothing else changes but the table. */
+static Made make(Machine *m, uint32_t limit, size_t scratch_len)
+{
+    static uint32_t scratch[SCRATCH * MAX_WORDS + EXCESS];
+    static Machine given;
+    given = *m;
+    calls = "make";
+    memset(scratch, NOISE, sizeof scratch);
+    Made made = crank_make_table(m->bench.state, limit, m->mem, m->mem_len, m->table, m->table_len,
+                                 scratch, scratch_len);
+    const int walked = made.refusal != 10 && made.refusal != 22;
+    const size_t used = walked ? SCRATCH * (size_t)given.bench.state.m : 0;
+    demand(is_noise(scratch + used, sizeof scratch - 4 * used), "excess scratch was written");
+    demand(memcmp(m->mem, given.mem, sizeof m->mem) == 0, "memory is not as it was");
+    const size_t written = walked ? TABLE : 0;
+    demand(memcmp(m->table + written, given.table + written, sizeof m->table - 4 * written) == 0,
+           "excess table was written");
+    return made;
+}
+
+static int is_zero(const uint32_t *words, size_t length)
+{
+    for (size_t i = 0; i < length; i++) {
+        if (words[i] != 0) {
+            return 0;
+        }
+    }
+    return 1;
+}
+
+/* Refused with nothing written, or with zeros for a table where the walk had begun. */
+static void expect_make_refused(const Machine *given, uint32_t limit, size_t scratch_len,
+                                uint32_t number)
+{
+    static Machine m;
+    m = *given;
+    Made made = make(&m, limit, scratch_len);
+    demand(made.refusal == number, "another refusal than expected");
+    demand(made.cycles == 0, "cycles of a table that is refused");
+    demand(same_record(&made.state, &given->bench.state), "a refused table changed the record");
+    demand(number == 10 || number == 22 || is_zero(m.table, TABLE), "a refused table is left");
+    refused[number]++;
+}
+
+/* Makes the table: the record is the one given, but for its nodes and that it stands at the first. */
+static uint32_t expect_made(Machine *m, uint32_t limit)
+{
+    Record expected = m->bench.state;
+    Made made = make(m, limit, SCRATCH * (size_t)expected.m);
+    demand(made.refusal == 0, "the table is refused");
+    expected.n = made.state.n;
+    expected.qifv = 1;
+    demand(same_record(&made.state, &expected), "another record");
+    demand(is_zero(m->table + NODE * expected.n, TABLE - NODE * expected.n),
+           "no zeros behind the nodes");
+    m->bench.state = made.state;
+    tables++;
+    made_nodes += expected.n;
+    return made.cycles;
+}
+
+/* The image without its table, of which nothing is left but noise. */
+static void without_table(const Machine *start, Machine *m)
+{
+    *m = *start;
+    m->bench.state.n = 0;
+    m->bench.state.qifv = 0;
+    memset(m->table, NOISE, sizeof m->table);
+    m->table_len = sizeof m->table / sizeof *m->table;
+}
+
+/* The table is the image's own, if it has one, and a run over it has as many turns as it has cycles. */
+static void makes_table(const Machine *start)
+{
+    static Machine m, begun;
+    const uint32_t n = start->bench.state.n;
+    without_table(start, &m);
+    uint32_t cycles = expect_made(&m, MAX_TURNS);
+    demand(m.bench.state.n == (n > 0 ? n : 1), "other nodes than in the image");
+    demand(n == 0 || memcmp(m.table, start->table, 4 * NODE * n) == 0, "another table");
+    begun = m;
+    expect_paired(&m);
+    demand(until_refused(&MODES[0], &m, FORWARD) == cycles, "other turns than cycles");
+    demand(until_refused(&MODES[0], &m, BACK) == cycles && same(&m, &begun),
+           "comes back to another state");
+}
+
+/* A record that is not as it should be, or too little lent; 10 comes before. */
+static void refused_tables(const Machine *start)
+{
+    static Machine bare, m;
+    const size_t scratch = SCRATCH * (size_t)start->bench.state.m;
+    without_table(start, &bare);
+    expect_make_refused(&bare, MAX_TURNS, scratch - 1, 22);
+    expect_make_refused(&bare, MAX_TURNS, 0, 22);
+    for (int kind = 0; kind < 6; kind++) {
+        m = bare;
+        switch (kind) {
+        case 0: m.bench.state.n = 1; break;
+        case 1: m.bench.state.qifw = 1; break;
+        case 2: m.bench.state.regs[0]++; break;
+        case 3: m.bench.state.regs[0] = m.bench.state.k; break;
+        case 4: m.bench.state.regs[0] = UINT32_MAX; break;
+        default: m.table_len = TABLE - 1;
+        }
+        expect_make_refused(&m, MAX_TURNS, scratch, 22);
+        m.mem_len = m.bench.state.m - 1;
+        expect_make_refused(&m, MAX_TURNS, scratch, 10);
+    }
+}
+
+/* A qif with unequal branches: that of coin 0 has the words 2, 5 and 6, that of coin 1 also 3 and 4. */
+static const uint32_t UNEQUAL[] = {
+    0x1A000000, /* start */
+    0x18400000, /* qif r1 */
+    0x06400003, /* bez r1, 3: over two words with coin 0 */
+    0x16500000, /* neg r2 */
+    0x16500000, /* neg r2 */
+    0x06400003, /* bez r1, 3: the landing */
+    0x19400000, /* fiq r1 */
+    0x01500009, /* ld r2, 9 */
+    0x1B000000, /* finish */
+    7,
+};
+
+enum {
+    UNEQUAL_WORDS = sizeof UNEQUAL / sizeof *UNEQUAL,
+    UNEQUAL_CYCLES = 8,  /* start, qif, the longer branch, ld */
+    UNEQUAL_WALKED = 11, /* with both branches */
+};
+
+/* The program, with registers that hold no coin and the last position, neither of which matters. */
+static void unequal(Machine *m)
+{
+    fill(m);
+    memcpy(m->mem, UNEQUAL, sizeof UNEQUAL);
+    m->bench.state = (Record){.k = UNEQUAL_WORDS - 1, .m = UNEQUAL_WORDS};
+    m->bench.state.position = INT64_MAX;
+    m->bench.state.regs[4] = 5;
+}
+
+/* Every word of its table, with as many cycles as are walked, and one less. */
+static void draws_table(void)
+{
+    static const uint32_t NODES[4][NODE] = {
+        /* fc0 fc1 lc0 lc1 cf cl nx pr w */
+        {2, 3, 2, 3, 0, 0, 4, 0, 0},
+        {0, 0, 0, 0, 1, 1, 0, 0, 2},
+        {0, 0, 0, 0, 1, 1, 0, 0, 0},
+        {0, 0, 0, 0, 0, 0, 0, 1, 0},
+    };
+    static Machine m;
+    unequal(&m);
+    expect_make_refused(&m, 0, SCRATCH * UNEQUAL_WORDS, 23);
+    expect_make_refused(&m, UNEQUAL_WALKED - 1, SCRATCH * UNEQUAL_WORDS, 23);
+    demand(expect_made(&m, UNEQUAL_WALKED) == UNEQUAL_CYCLES, "other cycles");
+    demand(m.bench.state.n == 4, "other nodes");
+    demand(memcmp(m.table, NODES, sizeof NODES) == 0, "another table");
+}
+
+/* Programs that can't be walked to their finish: with other words in two places, one of them the same
+ * where nothing else is to change. */
+static void refused_walks(void)
+{
+    static const struct { size_t place; uint32_t words[2], number; } WALKS[] = {
+        {7, {0x01500009, 0x16500000}, 11}, /* neg r2: there is no finish */
+        {3, {0x16500000, 0x1B000000}, 12}, /* finish, in the branch of coin 1 */
+        {3, {0x16500000, 0}, 13},
+        {7, {0x0150000A, 0x1B000000}, 15}, /* ld r2, 10 */
+        {1, {0x16500000, 0x06400003}, 17}, /* neg r2: there is no qif */
+        {3, {0x16500000, 0x0500FFFC}, 18}, /* bra -4: to start */
+        {5, {0x06400003, 0x19500000}, 24}, /* fiq r2 */
+        {2, {0x16500000, 0x02400001}, 24}, /* neg r2; xori r1, 1: the coin is lost */
+        {3, {0x02500001, 0x16500000}, 24}, /* xori r2, 1: r2 differs */
+        {3, {0x01500009, 0x02500007}, 24}, /* ld r2, 9; xori r2, 7: a memory word alone */
+    };
+    static Machine m;
+    for (size_t i = 0; i < sizeof WALKS / sizeof *WALKS; i++) {
+        unequal(&m);
+        memcpy(m.mem + WALKS[i].place, WALKS[i].words, sizeof WALKS[i].words);
+        expect_make_refused(&m, MAX_TURNS, SCRATCH * UNEQUAL_WORDS, WALKS[i].number);
+    }
+}
+
 /* ---- What is done with an image ---- */
 
 /* Where the one example with constants among its code has the first; K in every other image. */
@@ -751,6 +943,7 @@ static void refused_sizes(const Machine *start)
         expect_check(&m, 10, 0);
         expect_node(&m, 0, 10);
         expect_node(&m, 1, 10);
+        expect_make_refused(&m, MAX_TURNS, 0, 10);
     }
 }
 
@@ -832,6 +1025,8 @@ static void examine_file(const File *file)
     refused_samples(&start);
     refused_positions(&start, FORWARD);
     refused_positions(&start, BACK);
+    makes_table(&start);
+    refused_tables(&start);
 }
 
 /* As it is, and of kind 2: from 0, from below it, over the low word, and near both ends. */
@@ -866,7 +1061,8 @@ static void report_previews(const char *name, int way)
 /* Fails where something was never met; else says what was. */
 static void report(int images)
 {
-    static const int MET[] = {1, 2, 3, 4, 5, 6, 7, 8, 9, 10, 12, 17, 19, 20, 21};
+    static const int MET[] = {1,  2,  3,  4,  5,  6,  7,  8,  9,  10, 11, 12,
+                              13, 15, 17, 18, 19, 20, 21, 22, 23, 24};
     unsigned long total = 0;
     image = "all images";
     calls = "coverage";
@@ -878,15 +1074,17 @@ static void report(int images)
     demand(positions > 0, "no end of the position was tried");
     demand(nodes > 0, "no node was checked by itself");
     demand(constants > 0, "no image has a constant among its code");
+    demand(made_nodes > tables, "no image with a qif had its table made");
     for (size_t i = 0; i < sizeof MET / sizeof *MET; i++) {
         demand(refused[MET[i]] > 0, "a refusal was never met");
         total += refused[MET[i]];
     }
     printf("roundtrip: images %d; turns forward %lu, back %lu; single turns out of a wait %lu; "
            "batches of 0 %lu; samples %lu; loads behind a preface %lu; ends of the position %lu; "
-           "checks of a node %lu; of code with a constant %lu; calls refused %lu\n",
+           "checks of a node %lu; of code with a constant %lu; tables made %lu, with nodes %lu; "
+           "calls refused %lu\n",
            images, turned[FORWARD], turned[BACK], waited, empty, sampled, prefaced, positions,
-           nodes, constants, total);
+           nodes, constants, tables, made_nodes, total);
     report_previews("forward", FORWARD);
     report_previews("back", BACK);
 }
@@ -900,6 +1098,9 @@ int main(int count, char **names)
     for (int i = 1; i < count; i++) {
         examine(names[i]);
     }
+    image = "a small program";
+    draws_table();
+    refused_walks();
     report(count - 1);
     return 0;
 }
