@@ -6,7 +6,7 @@ use crate::show;
 use crate::typed;
 use crate::wheel::{self, Samples};
 use crate::words::counted;
-use crank::{meaning, Call, Direction, Machine};
+use crank::{meaning, Call, Direction, Machine, MAKE_LIMIT};
 use crank_assembler::files;
 use std::io::{self, Write};
 
@@ -35,8 +35,8 @@ type Done = Result<(), Stop>;
 
 /// Behind the table that `help` prints.
 const NUMBERS: &str = "\
-N, addresses, nodes and samples are decimal or hexadecimal with 0x. Of a source, an address may be
-given by a label, and a node by its name.
+N, LIMIT, addresses, nodes and samples are decimal or hexadecimal with 0x. Of a source, an address
+may be given by a label, and a node by its name.
 SAMPLES are numbers with blanks between them, or @FILE: the bytes of that file.";
 
 /// A row of the table that `help` prints.
@@ -74,6 +74,8 @@ const COMMANDS: &[Command] = &[
         does: "the memory words from address FROM to TO" },
     Command { names: &["table"], takes: "", run: table,
         does: "the qif table: links that are not 0, and waits" },
+    Command { names: &["make"], takes: "[LIMIT]", run: make,
+        does: "makes the qif table, walking at most LIMIT cycles; 1000000 if left out" },
     Command { names: &["p", "picture"], takes: "FILE.svg", run: draw,
         does: "draws the qif table" },
     Command { names: &["check"], takes: "[NODE]", run: check,
@@ -231,6 +233,16 @@ fn mem(desk: &mut Desk, arguments: &[&str], out: &mut dyn Write) -> Done {
 
 fn table(desk: &mut Desk, _: &[&str], out: &mut dyn Write) -> Done {
     Ok(show::table(out, desk)?)
+}
+
+fn make(desk: &mut Desk, arguments: &[&str], out: &mut dyn Write) -> Done {
+    let limit = match arguments {
+        [limit, ..] => typed::number(limit, u64::from(u32::MAX))? as u32,
+        [] => MAKE_LIMIT,
+    };
+    let before = desk.machine.clone();
+    let made = desk.machine.make_table(limit);
+    Ok(show::made(out, made, &before, desk)?)
 }
 
 fn draw(desk: &mut Desk, arguments: &[&str], out: &mut dyn Write) -> Done {

@@ -199,6 +199,25 @@ pub fn wheel(out: &mut dyn Write, made: &Wheel, before: &Machine, desk: &Desk) -
     changes(out, before, desk)
 }
 
+/// What the making of a table came to: its cycles or the refusal.
+pub fn made(
+    out: &mut dyn Write,
+    made: Result<u32, u32>,
+    before: &Machine,
+    desk: &Desk,
+) -> io::Result<()> {
+    let cycles = match made {
+        Ok(cycles) => counted(cycles.into(), "cycle"),
+        Err(refusal) => {
+            let why = meaning(refusal, Call::Make);
+            return writeln!(out, "refused by {refusal}: {why}; nothing changed");
+        }
+    };
+    let nodes = counted(desk.machine.record.n.into(), "node");
+    writeln!(out, "{nodes}, {cycles} for every choice of coins")?;
+    columns(out, &changed(before, &desk.machine, &desk.exercise))
+}
+
 /// What a turn would execute or undo and what it would change, or why it would be refused.
 pub fn preview(out: &mut dyn Write, desk: &Desk, direction: Direction) -> io::Result<()> {
     let (machine, (way, call)) = (&desk.machine, way(direction));
