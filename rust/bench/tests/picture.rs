@@ -300,13 +300,18 @@ fn the_examples() {
     assert!(pictures >= 24 && nodes > 50 && links > 100);
 }
 
-/// The picture in docs/BENCH.md is the one that the command beside it draws.
+/// The pictures in docs/BENCH.md and docs/MANUAL.md are those that the commands beside them draw.
 #[test]
-fn the_picture_of_the_document() {
-    let folder = scratch("picture_document");
-    let picture = draw(&folder, "examples/qif_nested10.qasm", "f 5");
-    let kept = fs::read_to_string(top().join("docs/table.svg")).expect("docs/table.svg");
-    assert!(picture == kept, "docs/table.svg is to be drawn anew");
+fn the_pictures_of_the_documents() {
+    let folder = scratch("picture_documents");
+    for (name, file, before) in [
+        ("docs/table.svg", "examples/qif_nested10.qasm", "f 5"),
+        ("docs/made.svg", "examples/mux.qasm", ""),
+    ] {
+        let picture = draw(&folder, file, before);
+        let kept = fs::read_to_string(top().join(name)).expect(name);
+        assert!(picture == kept, "{name} is to be drawn anew");
+    }
 }
 
 #[test]
