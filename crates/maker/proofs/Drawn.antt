@@ -339,7 +339,7 @@ keeps (fork p a b) v n t u i hv hn hu h d k =
 
 -- ---- the words of a node that is reached and not yet left, fc lc cl nx, are open
 
-isOpen : ℕ → Bool
+pub isOpen : ℕ → Bool
 isOpen i = pick (eqb i 4) false (pick (eqb i 7) false (pick (eqb i 8) false true))
 
 abbrev IsTrue : Bool → Type 0
@@ -370,9 +370,9 @@ not-open i h = (
 
 -- ---- a table that agrees on the words of a walk holds its links too
 
-record Agrees (T T′ : List ℕ) (q : Walk) (v n : ℕ) : Type 0 where
-  start : (i : ℕ) → i < 9 → isOpen i ≡ true → v ≢ ending q v n → word T v i ≡ word T′ v i
-  made : (u i : ℕ) → n < u → u ≤ n + size q → i < 9 → (u ≡ ending q v n → isOpen i ≡ false) → word T u i ≡ word T′ u i
+pub record Agrees (T T′ : List ℕ) (q : Walk) (v n : ℕ) : Type 0 where
+  pub start : (i : ℕ) → i < 9 → isOpen i ≡ true → v ≢ ending q v n → word T v i ≡ word T′ v i
+  pub made : (u i : ℕ) → n < u → u ≤ n + size q → i < 9 → (u ≡ ending q v n → isOpen i ≡ false) → word T u i ≡ word T′ u i
 
 module _ (T T′ : List ℕ) (N : ℕ) where
   link-agrees : (u i z : ℕ) → word T u i ≡ word T′ u i → link T N u i ≡ z → link T′ N u i ≡ z
@@ -385,7 +385,7 @@ module _ (T T′ : List ℕ) (N : ℕ) where
       subst (λ (x : ℕ). (isNode N v && (isNode N u && (eqb (pick (isNode N v) x 0) u && eqb (pick (isNode N u) (word T′ u g) 0) v))) ≡ true) p
       (subst (λ (x : ℕ). (isNode N v && (isNode N u && (eqb (pick (isNode N v) (word T v f) 0) u && eqb (pick (isNode N u) x 0) v))) ≡ true) q h)
 
-  stable : (q : Walk) (v n : ℕ) → v ≤ n → Agrees T T′ q v n → Holds T N q v n → Holds T′ N q v n
+  pub stable : (q : Walk) (v n : ℕ) → v ≤ n → Agrees T T′ q v n → Holds T N q v n → Holds T′ N q v n
   unfolding ending size isOpen
   stable begin v n hn g h = tt
   stable (step p) v n hn g h = stable p v n hn (record { start = g .start; made = g .made }) h

@@ -32,7 +32,8 @@ use Rattle.maker.proofs.Choices.{Holds, both-true}
 use Rattle.maker.proofs.Looked.{at-plain, last-is}
 use Rattle.maker.proofs.Lawful.{machine-lawful}
 use Rattle.maker.proofs.Same.{same-cycles, ends-last}
-use Rattle.maker.proofs.Turns.{Sized, NoNode, goes-plain, goes-on, qif-begins, qif-waits, fiq-ends}
+use Rattle.maker.proofs.Effects.{NoNode}
+use Rattle.maker.proofs.Turns.{Sized, goes-plain, goes-on, qif-begins, qif-waits, fiq-ends}
 
 abbrev AllNext : Next View → (Guided View → Type 0) → Type 0
 AllNext (stuck k) P = Unit {0}
@@ -131,7 +132,7 @@ module _ (t : List ℕ) (N : ℕ) where
   -- any number of cycles
   module _ (c : ℕ → ℕ) where
     abbrev Walked : ℕ → ℕ → Guided View → Guided View → Type 0
-    Walked k i g h = follows t c k i (embed g) ≡ went (embed h)
+    Walked k i g h = (follows t c k i (embed g) ≡ went (embed h)) × Sized t N (h .at)
 
     more : (k i : ℕ) (g : Guided View) (x : Next View) → AllNext x (Same (c i) g)
         → ((h : Guided View) → Sized t N (h .at) → AllNext (runs machine t N c k (suc i) h) (Walked k (suc i) h))
@@ -142,17 +143,18 @@ module _ (t : List ℕ) (N : ℕ) where
       where
         onward : (y : Next View) → AllNext y (Walked k (suc i) h) → AllNext y (Walked (suc k) i g)
         onward (stuck n) p = tt
-        onward (moved z) p = ap (λ (q : Went). byWent q (follows t c k (suc i))) (s .0) ∙ p
+        onward (moved z) p = (ap (λ (q : Went). byWent q (follows t c k (suc i))) (s .0) ∙ p .0, p .1)
 
     walked : (k i : ℕ) (g : Guided View) → Sized t N (g .at) → AllNext (runs machine t N c k i g) (Walked k i g)
     unfolding runs follows
-    walked zero i g z = refl
+    walked zero i g z = (refl, z)
     walked (suc k) i g z = more k i g (guidedCycle machine t N (c i) g) (simulates (c i) g z) (λ h q. walked k (suc i) h q)
 
 -- every table that holds the links of an accepted walk
 module _ (limit nest : ℕ) (s z : View) (p : Walk) (e : branchAt machine limit nest false 1 0 s ≡ ended p z) (t : List ℕ) where
   pub machine-follows : Sized t (1 + size p) s → Holds t (1 + size p) p 1 1 → (c : ℕ → ℕ) → ((i : ℕ) → c i ≤ 1)
-      → follows t c (cycles p) 0 (walker (placed (1 + size p) 1 0 s) []) ≡ went (walker (placed (1 + size p) (ending p 1 1) 0 z) [])
+      → (follows t c (cycles p) 0 (walker (placed (1 + size p) 1 0 s) []) ≡ went (walker (placed (1 + size p) (ending p 1 1) 0 z) []))
+      × Sized t (1 + size p) z
   unfolding coins
   machine-follows sized h c b =
       subst (λ (x : Next View). AllNext x (Walked t (1 + size p) c (cycles p) 0 (guided s 1 0 [])))

@@ -7,6 +7,7 @@ pub mod Drawn
 pub mod Links
 pub mod Fields
 pub mod Registers
+pub mod Effects
 pub mod Looked
 pub mod Lawful
 pub mod Turns
@@ -18,3 +19,5 @@ pub mod Loops
 pub mod Forking
 pub mod Wholes
 pub mod Call
+pub mod Numbers
+pub mod Claims

@@ -3,6 +3,7 @@ use mathlib.Core.Path.{_≡_, refl, sym, subst}
 use mathlib.Core.Bool.{Bool, true, false}
 use mathlib.Core.List.{[]}
 use Prim.Native.Nat.{ℕ}
+use native.Mathlib.Omega.{arith}
 use Rattle.word.specs.Word.{pick}
 use Rattle.qins.specs.Op.{Op}
 use Rattle.qins.specs.Op.Op.{None, Start, Finish, Xor, Add, Sub, Neg, Swap, SwapBits, Fetch, Exchange, Qif, Fiq}
@@ -17,6 +18,7 @@ use Rattle.maker.specs.declared.Kind.{Kind}
 use Rattle.maker.specs.declared.Kind.the-variants.{Plain, Opens, Closes}
 use Rattle.maker.specs.Walkable.{Look}
 use Rattle.maker.specs.Walkable.Look.{halts, last, goes, forks, joins}
+use Rattle.maker.proofs.Effects.{IsPlain, Fine, plain-effect, landed-effect}
 use Rattle.maker.specs.Idle.{opAt, kindOf, placed, lands, isRegister, ledTo, lookBy, lookAt}
 
 -- ---- what a kind says of the operation
@@ -40,11 +42,6 @@ shape (Fetch a b) = tt
 shape (Exchange a v) = tt
 shape (Qif a) = refl
 shape (Fiq a) = refl
-
-abbrev pub IsPlain : Kind → Type 0
-IsPlain Plain = Unit {0}
-IsPlain (Opens a) = ⊥
-IsPlain (Closes a) = ⊥
 
 -- ---- a qif, a fiq, or a word that leads on to z by the effect e
 
@@ -72,7 +69,7 @@ pub record AtPlain (s z : View) : Type 0 where
   pub next : to Forward (performed e (placed 0 0 0 s)) ≡ z
 
 abbrev Says : View → Look View → Type 0
-Says s (halts k) = Unit {0}
+Says s (halts k) = ¬ (k ≡ 0)
 Says s last = (isCode (s .at) (pc s) ≡ true) × (finishes (s .memory) (pc s) ≡ true)
 Says s (goes z) = AtPlain s z
 Says s forks = AtQif s
@@ -80,21 +77,23 @@ Says s joins = AtFiq s
 
 module _ (s : View) (code : isCode (s .at) (pc s) ≡ true) (runs : finishes (s .memory) (pc s) ≡ false) where
   by-effect : IsPlain (kindOf (opAt s)) → (x : Attempt)
-      → landed Forward (placed 0 0 0 s) (attempt [] Forward (opAt s) (placed 0 0 0 s)) ≡ x → Says s (ledTo (placed 0 0 0 s) x)
-  by-effect p (Refused n) d = tt
-  by-effect p (Does e) d = record { plain = p; e = e; does = d; code = code; runs = runs; next = refl }
+      → landed Forward (placed 0 0 0 s) (attempt [] Forward (opAt s) (placed 0 0 0 s)) ≡ x → Fine x → Says s (ledTo (placed 0 0 0 s) x)
+  by-effect p (Refused n) d f = f
+  by-effect p (Does e) d f = record { plain = p; e = e; does = d; code = code; runs = runs; next = refl }
 
   by-qif : (a : ℕ) → opAt s ≡ Qif a → (x y : Bool) → isRegister s a ≡ x → lands s ≡ y → Says s (pick x (pick y (halts 18) forks) (halts 13))
-  by-qif a q true true h k = tt
+  by-qif a q true true h k = λ z. omega (arith, z)
   by-qif a q true false h k = record { a = a; op = q; named = h; code = code; runs = runs; free = k }
-  by-qif a q false y h k = tt
+  by-qif a q false y h k = λ z. omega (arith, z)
 
   by-fiq : (a : ℕ) → opAt s ≡ Fiq a → (x : Bool) → isRegister s a ≡ x → Says s (pick x joins (halts 13))
   by-fiq a q true h = record { a = a; op = q; named = h; code = code; runs = runs }
-  by-fiq a q false h = tt
+  by-fiq a q false h = λ z. omega (arith, z)
 
   by-kind : (k : Kind) → kindOf (opAt s) ≡ k → Says s (lookBy k (opAt s) (placed 0 0 0 s))
-  by-kind Plain q = by-effect (subst IsPlain (sym q) tt) _ refl
+  by-kind Plain q =
+      let p : IsPlain (kindOf (opAt s)) = subst IsPlain (sym q) tt in
+      by-effect p _ refl (landed-effect (placed 0 0 0 s) _ (plain-effect (opAt s) p (placed 0 0 0 s)))
   by-kind (Opens a) q = by-qif a (subst (λ (k : Kind). Shape k (opAt s)) q (shape (opAt s))) (isRegister s a) (lands s) refl refl
   by-kind (Closes a) q = by-fiq a (subst (λ (k : Kind). Shape k (opAt s)) q (shape (opAt s))) (isRegister s a) refl
 
@@ -102,7 +101,7 @@ by-tests : (s : View) (x y : Bool) → isCode (s .at) (pc s) ≡ x → finishes 
     → Says s (pick x (pick y last (lookBy (kindOf (opAt s)) (opAt s) (placed 0 0 0 s))) (halts 11))
 by-tests s true true p q = (p, q)
 by-tests s true false p q = by-kind s p q (kindOf (opAt s)) refl
-by-tests s false y p q = tt
+by-tests s false y p q = λ z. omega (arith, z)
 
 says : (s : View) → Says s (lookAt s)
 unfolding lookAt
@@ -119,6 +118,9 @@ at-plain s z e = subst (Says s) e (says s)
 
 pub last-is : (s : View) → lookAt s ≡ last → (isCode (s .at) (pc s) ≡ true) × (finishes (s .memory) (pc s) ≡ true)
 last-is s e = subst (Says s) e (says s)
+
+pub halt-is : (s : View) (k : ℕ) → lookAt s ≡ halts k → ¬ (k ≡ 0)
+halt-is s k e = subst (Says s) e (says s)
 
 -- ---- and back
 

@@ -33,8 +33,9 @@ use Rattle.maker.specs.Walkable.{Look}
 use Rattle.maker.specs.Walkable.Look.{halts, last, goes, forks, joins}
 use Rattle.maker.specs.Idle.{isGate, idleOp, kindOf, lands, ledTo, plain, lookBy, lookAt}
 use Rattle.maker.specs.Parts.{statusAt, viewAt, movedOn, Simple, Looks, Sized}
-use Rattle.maker.proofs.Looked.{Shape, shape, IsPlain}
-use Rattle.maker.proofs.Turns.{NoNode, Fine, plain-effect, landed-effect, from-is}
+use Rattle.maker.proofs.Effects.{IsPlain, NoNode, Fine, plain-effect, landed-effect}
+use Rattle.maker.proofs.Looked.{Shape, shape}
+use Rattle.maker.proofs.Turns.{from-is}
 use Rattle.maker.proofs.Registers.{qif-register, fiq-register}
 
 pub whole : (m : ℕ) (z : List ℕ) → length z ≡ m → take m z ≡ z

@@ -31,7 +31,8 @@ use Rattle.maker.specs.declared.Kind.{Kind}
 use Rattle.maker.specs.Idle.{opAt, kindOf, coinOf, coinAt, placed, on, lands, isRegister, lookAt, machine}
 use Rattle.maker.specs.Follow.{idled, plannedIdle, Walker, Went, walker, byTurn, turnThen, cycleBy, cycle}
 use Rattle.maker.specs.Follow.Went.{halted, went}
-use Rattle.maker.proofs.Looked.{IsPlain, AtQif, AtFiq, AtPlain, at-qif, at-fiq, at-plain}
+use Rattle.maker.proofs.Effects.{IsPlain, NoNode, Fine, plain-effect, landed-effect}
+use Rattle.maker.proofs.Looked.{AtQif, AtFiq, AtPlain, at-qif, at-fiq, at-plain}
 use Rattle.maker.proofs.Lawful.{pc-stays, br-stays, reads, op-stays}
 
 -- ---- a turn that is not refused for sizes, pc or finish
@@ -76,45 +77,6 @@ plain-attempt t N v (Fetch a b) p s = refl
 plain-attempt t N v (Exchange a x) p s = refl
 plain-attempt t N v (Qif a) p s = absurd p
 plain-attempt t N v (Fiq a) p s = absurd p
-
--- its effect leaves node and wait count
-abbrev pub NoNode : Effect → Type 0
-NoNode Nothing = Unit {0}
-NoNode (Write a v) = Unit {0}
-NoNode (WriteTwo a v b x) = Unit {0}
-NoNode (SwapWord a i) = Unit {0}
-NoNode (SetNode u j) = ⊥
-
--- a refusal that is none of 0, or such an effect
-abbrev pub Fine : Attempt → Type 0
-Fine (Refused n) = ¬ (n ≡ 0)
-Fine (Does e) = NoNode e
-
-fine : (b : Bool) (n : ℕ) (x : Attempt) → ¬ (n ≡ 0) → Fine x → Fine (refuse b n x)
-unfolding refuse
-fine true n x h f = h
-fine false n x h f = f
-
-pub plain-effect : (o : Op) → IsPlain (kindOf o) → (s : View) → Fine (attempt [] Forward o s)
-unfolding attempt
-plain-effect None p s = λ z. omega (arith, z)
-plain-effect Start p s = fine _ 14 (Does Nothing) (λ z. omega (arith, z)) tt
-plain-effect Finish p s = fine _ 14 (Does Nothing) (λ z. omega (arith, z)) tt
-plain-effect (Xor a x) p s = fine _ 14 (Does (Write a _)) (λ z. omega (arith, z)) tt
-plain-effect (Add a x) p s = fine _ 14 (Does (Write a _)) (λ z. omega (arith, z)) tt
-plain-effect (Sub a x) p s = fine _ 14 (Does (Write a _)) (λ z. omega (arith, z)) tt
-plain-effect (Neg a) p s = fine _ 14 (Does (Write a _)) (λ z. omega (arith, z)) tt
-plain-effect (Swap a b) p s = fine _ 14 (Does (WriteTwo a _ b _)) (λ z. omega (arith, z)) tt
-plain-effect (SwapBits a b) p s = fine _ 14 (Does (WriteTwo a _ b _)) (λ z. omega (arith, z)) tt
-plain-effect (Fetch a b) p s = fine _ 14 _ (λ z. omega (arith, z)) (fine _ 15 (Does (Write a _)) (λ z. omega (arith, z)) tt)
-plain-effect (Exchange a x) p s = fine _ 14 _ (λ z. omega (arith, z)) (fine _ 15 (Does (SwapWord a _)) (λ z. omega (arith, z)) tt)
-plain-effect (Qif a) p s = absurd p
-plain-effect (Fiq a) p s = absurd p
-
-pub landed-effect : (s : View) (x : Attempt) → Fine x → Fine (landed Forward s x)
-unfolding landed
-landed-effect s (Refused n) h = h
-landed-effect s (Does e) h = fine _ 18 (Does e) (λ z. omega (arith, z)) h
 
 -- placed at a node, an attempt without one lands as it does there
 landed-placed : (N v : ℕ) (s : View) (x : Attempt) → Fine x → landed Forward (placed N v 0 s) x ≡ landed Forward (placed 0 0 0 s) x
