@@ -155,11 +155,13 @@ IsTrue true = Unit {0}
 IsTrue false = ⊥
 
 module _ {r : Record} {limit : ℕ} {mem table scratch : List ℕ} {a : Made} {mem′ table′ scratch′ : List ℕ}
-    (m : MakePromise r limit mem table scratch a mem′ table′ scratch′) (ok : a .refusal ≡ 0) (P : Made → List ℕ → List ℕ → Type 0)
-    (h : (p : Walk) (z : View) → outcomeOf r limit mem ≡ ended p z → Ready r mem table scratch
-    → P (madeAs 0 (cycles p) (withTable r (1 + size p))) mem (drawn p 1 1 (zeros mostWords) ++ drop mostWords table)) where
-  accepted : P a mem′ table′
-  accepted = by-start (eqb (refusalOf r mem table scratch) 0) refl
+    (m : MakePromise r limit mem table scratch a mem′ table′ scratch′) (ok : a .refusal ≡ 0) where
+  -- what holds of every accepted outcome holds of what the call leaves
+  accepted : (P : Made → List ℕ → List ℕ → Type 0)
+      → ((p : Walk) (z : View) → outcomeOf r limit mem ≡ ended p z → Ready r mem table scratch
+      → P (madeAs 0 (cycles p) (withTable r (1 + size p))) mem (drawn p 1 1 (zeros mostWords) ++ drop mostWords table))
+      → P a mem′ table′
+  accepted P h = by-start (eqb (refusalOf r mem table scratch) 0) refl
     where
       told : (b : Bool) → eqb (refusalOf r mem table scratch) 0 ≡ b
           → (a ≡ pick b (answerOf r (outcomeOf r limit mem)) (madeAs (refusalOf r mem table scratch) 0 r))
@@ -180,9 +182,13 @@ module _ {r : Record} {limit : ℕ} {mem table scratch : List ℕ} {a : Made} {m
           by-walk (ready r mem table scratch (eqb-true _ 0 e)) (outcomeOf r limit mem) refl (numbered r limit mem) (told true e .0) (told true e .1)
       by-start false e = absurd (subst IsTrue (sym (ap (λ (i : ℕ). eqb i 0) (sym (ap (λ (x : Made). x .refusal) (told false e .0)) ∙ ok)) ∙ e) tt)
 
+  choices : EveryChoice a mem′ table′
+  choices = accepted EveryChoice λ p z e g. every r limit mem table p z e (g .code) (g .words) (g .wait)
+
+  paired : checkOf (a .state) mem′ table′ .refusal ≡ 8 → ⊥
+  paired =
+      accepted (λ a mem table. checkOf (a .state) mem table .refusal ≡ 8 → ⊥) λ p z e g.
+      passes r limit mem table p z e (g .code) (g .words) (g .wait)
+
 pub on-made : OnMade
-on-made =
-    record {
-      choices = λ m ok. accepted m ok EveryChoice λ p z e g. every _ _ _ _ p z e (g .code) (g .words) (g .wait);
-      paired = λ m ok. accepted m ok (λ a mem table. checkOf (a .state) mem table .refusal ≡ 8 → ⊥) λ p z e g. passes _ _ _ _ p z e (g .code) (g .words) (g .wait);
-    }
+on-made = record { choices = λ m ok. choices m ok; paired = λ m ok. paired m ok }
