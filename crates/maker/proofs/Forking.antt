@@ -131,7 +131,7 @@ module _ (k w limit nest : ℕ) (v n u : ℕ) (s m₀ t : List ℕ) where
     shut i r l z e h q = out r l z (opens deeper ∙ stops _ i _ e h) (q, h)
 
     -- what branch 0 says, with the memory z at its exit
-    abbrev First : Walked → List ℕ → List ℕ → Type 0
+    abbrev pub First : Walked → List ℕ → List ℕ → Type 0
     First r l z = Shown k w (deep (n + 2) (u + 1) (start 0)) (n + 1) (n + 2) (u + 1) t r l z
 
     module _ (open-0 : openingOf limit n u ≡ 0) where
@@ -181,7 +181,7 @@ module _ (k w limit nest : ℕ) (v n u : ℕ) (s m₀ t : List ℕ) where
         shut₀ i r l z e h q = out r l z (opens deeper ∙ (to-close ∙ stops _ i _ (closed i e) h)) (q, h)
 
         -- what branch 1 says, from the memory m that was put back
-        abbrev Then : List ℕ → Walked → List ℕ → List ℕ → Type 0
+        abbrev pub Then : List ℕ → Walked → List ℕ → List ℕ → Type 0
         Then m r l z = Shown k w (deep (a .nodes) (a .used + 1) (viewAt k w (entered s c 1) m)) (n + 2) (a .nodes) (a .used + 1) l₀ r l z
 
         module _ (close-0 : closingOf k w limit c (a .used) (a .regs) z₀ ≡ 0) (m : List ℕ) (back : m ≡ m₀) where

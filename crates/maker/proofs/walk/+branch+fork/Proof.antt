@@ -9,11 +9,11 @@ use lib.ListN.{length, getD}
 use denote.Ref.{now}
 use borrow.Author.Needs.{needs}
 use Rattle.maker.specs.declared.Walked.{Walked}
-use Rattle.maker.specs.Parts.{walkedAt, coinIn, entered, left, closingOf, meetingOf}
+use Rattle.maker.specs.Parts.{Room, walkedAt, coinIn, entered, left, openingOf, closingOf, meetingOf}
 use Rattle.maker.specs.Idle.{sameWords}
 use Rattle.maker.proofs.Copies.{put-back, told-same}
 use Rattle.maker.proofs.Rooms.{fits, as-long, deeper, sized}
-use Rattle.maker.proofs.Forking.{none, shut, refused₀, came₀, shut₀, refused₁, came₁, shut₁, done, short, opened, shut-below, met-below}
+use Rattle.maker.proofs.Forking.{First, Then, Came₀, Came₁, none, shut, refused₀, came₀, shut₀, refused₁, came₁, shut₁, done, short, opened, shut-below, met-below}
 use Rattle.maker.proofs.Loops.{Going, begun, from-begin, halted, finished-in, finished, joined, joined-out, limited, small, goes-on, fork-out, taken, falls as fork-falls, fits as fork-fits, forks-on}
 use Prim.Native.Nat.{ℕ, _<_}
 use borrow.Fn.Kinds.{In}
@@ -65,37 +65,22 @@ branch-Inv-loop k m limit nest inside mem₀ scratch₀ table₀ at₀ mem scrat
 abbrev branch-μ-loop : branch-lts.MeasureT-loop
 branch-μ-loop k m limit nest inside mem₀ scratch₀ table₀ at₀ mem scratch table at = limit - at .used
 
-fork-returns-4 : (t : ℕ) → fork-lts.Need-returns-4 (
+-- what each callee of branch asks and tells
+abbrev branch-said : ℕ → branch-lts.Claims
+branch-said t = (
+  walked-at-reads.Asked,
+  walked-at-reads.Learnt,
+  advance-reads.Asked,
+  advance-reads.Learnt,
   refuse-reads.Asked,
   refuse-reads.Learnt,
-  opening-reads.Asked,
-  opening-reads.Learnt,
-  coin-at-reads.Asked,
-  coin-at-reads.Learnt,
-  look-reads.Asked,
-  look-reads.Learnt,
-  copy-reads.Asked,
-  copy-reads.Learnt,
-  enter-reads.Asked,
-  enter-reads.Learnt,
-  branch-below t,
-  branch.Post,
-  closing-reads.Asked,
-  closing-reads.Learnt,
-  exchange-reads.Asked,
-  exchange-reads.Learnt,
-  agree-reads.Asked,
-  agree-reads.Learnt,
-  meeting-reads.Asked,
-  meeting-reads.Learnt,
-  leave-reads.Asked,
-  leave-reads.Learnt,
-  join-reads.Asked,
-  join-reads.Learnt,
-) (fork-at t) fork.Post
-fork-returns-4 t c = let g = (c .before .before .before .before .before .before .before .before .before .before .before .before .before .before .before .before .before .before .before .before .before .before .before .before .before .before .before .before .before .before .before .before .before .before .before .before .before) .args in shut₀ (g .k) (g .m) (g .limit) (g .nest) (g .from .node) (g .from .nodes) (g .from .used) (g .from .regs) (now (g .mem)) (now (g .table)) ((c .before .before .before .before .before .before .before .before .before .before .before .before .before .before .before .before .before .before .before .before .before .before .before .before .before .before .before .before .before .before .before .before .before .if1) .left) (sym ((c .before .before .before .before .before .before .before .before .before .before .before .before .before .before .before .before .before .before .before .before .before .before .before .before .before .before .before .before .before .before .before .before .opening) .ensures) ∙ (c .before .before .before .before .before .before .before .before .before .before .before .before .before .before .before .before .before .before .before .before .before .before .before .before .before .before .before .before .before .before .before .if2) .left) ((c .before .before .before .before .before .before .before .before .before .before .before .before .branch) .result) ((c .before .before .before .before .before .before .before .before .before .before .before .before .branch) .last .1 .1 .1 .1 .1 .1 .1 .1 .0) ((c .before .before .before .before .before .before .before .before .before .before .before .before .branch) .last .1 .1 .1 .1 .1 .1 .0) (came₀ (g .k) (g .m) (g .limit) (g .nest) (g .from .node) (g .from .nodes) (g .from .used) (g .from .regs) (now (g .mem)) (now (g .table)) ((c .before .before .before .before .before .before .before .before .before .before .before .before .before .before .before .before .before .before .before .before .before .before .before .before .before .before .before .before .before .before .before .before .before .if1) .left) (sym ((c .before .before .before .before .before .before .before .before .before .before .before .before .before .before .before .before .before .before .before .before .before .before .before .before .before .before .before .before .before .before .before .before .opening) .ensures) ∙ (c .before .before .before .before .before .before .before .before .before .before .before .before .before .before .before .before .before .before .before .before .before .before .before .before .before .before .before .before .before .before .before .if2) .left) ((c .before .before .before .before .before .before .before .before .before .before .before .before .branch) .result) ((c .before .before .before .before .before .before .before .before .before .before .before .before .branch) .last .1 .1 .1 .1 .1 .1 .1 .1 .0) ((c .before .before .before .before .before .before .before .before .before .before .before .before .branch) .last .1 .1 .1 .1 .1 .1 .0) (from-begin (g .k) (g .m) (g .limit) (g .nest - 1) true (now (g .mem)) (now (g .table)) ((c .before .before .before .before .before .before .before .before .before .before .before .before .before .before .before .before .enter) .result) (entered (g .from .regs) (coinIn (g .from .regs) (now (g .mem))) 0) (g .from .used + 1) (g .from .nodes + 2) (g .from .nodes + 1) ((c .before .before .before .before .before .before .before .before .before .before .before .before .branch) .result) ((c .before .before .before .before .before .before .before .before .before .before .before .before .branch) .last .1 .1 .1 .1 .1 .1 .1 .1 .0) ((c .before .before .before .before .before .before .before .before .before .before .before .before .branch) .last .1 .1 .1 .1 .1 .1 .0) ((c .before .before .before .before .before .before .before .before .before .before .before .before .before .before .before .before .enter) .ensures ∙ ap (λ (i : ℕ). walkedAt (entered (g .from .regs) i 0) (g .from .used + 1) 0 (g .from .nodes + 2) (g .from .nodes + 1)) ((c .before .before .before .before .before .before .before .before .before .before .before .before .before .before .before .before .before .before .before .before .before .before .before .before .before .before .before .coin-at) .ensures)) ((c .before .before .before .before .before .before .before .before .before .before .before .before .branch) .ensures)) ((c .before .before .before .before .if3) .left)) _ _ _ _ ((c .before .before .closing) .ensures ∙ ap (λ (i : ℕ). closingOf (g .k) (g .m) (g .limit) i ((c .before .before .before .before .before .before .before .before .before .before .before .before .branch) .result .used) ((c .before .before .before .before .before .before .before .before .before .before .before .before .branch) .result .regs) ((c .before .before .before .before .before .before .before .before .before .before .before .before .branch) .last .1 .1 .1 .1 .1 .1 .0)) ((c .before .before .before .before .before .before .before .before .before .before .before .before .before .before .before .before .before .before .before .before .before .before .before .before .before .before .before .coin-at) .ensures)) ((c .before .if4) .taken) ((c .refuse3) .ensures)
+  fork-below t,
+  fork.Post,
+)
 
-fork-returns-5 : (t : ℕ) → fork-lts.Need-returns-5 (
+-- what each callee of fork asks and tells
+abbrev fork-said : ℕ → fork-lts.Claims
+fork-said t = (
   refuse-reads.Asked,
   refuse-reads.Learnt,
   opening-reads.Asked,
@@ -122,98 +107,599 @@ fork-returns-5 : (t : ℕ) → fork-lts.Need-returns-5 (
   leave-reads.Learnt,
   join-reads.Asked,
   join-reads.Learnt,
-) (fork-at t) fork.Post
-fork-returns-5 t c = let g = (c .before .before .before .before .before .before .before .before .before .before .before .before .before .before .before .before .before .before .before .before .before .before .before .before .before .before .before .before .before .before .before .before .before .before .before .before .before .before .before .before .before .before .before .before .before .before .before .before .before .before .before .before .before .before .before .before .before .before) .args in let lf = (came₀ (g .k) (g .m) (g .limit) (g .nest) (g .from .node) (g .from .nodes) (g .from .used) (g .from .regs) (now (g .mem)) (now (g .table)) ((c .before .before .before .before .before .before .before .before .before .before .before .before .before .before .before .before .before .before .before .before .before .before .before .before .before .before .before .before .before .before .before .before .before .before .before .before .before .before .before .before .before .before .before .before .before .before .before .before .before .before .before .before .before .before .if1) .left) (sym ((c .before .before .before .before .before .before .before .before .before .before .before .before .before .before .before .before .before .before .before .before .before .before .before .before .before .before .before .before .before .before .before .before .before .before .before .before .before .before .before .before .before .before .before .before .before .before .before .before .before .before .before .before .before .opening) .ensures) ∙ (c .before .before .before .before .before .before .before .before .before .before .before .before .before .before .before .before .before .before .before .before .before .before .before .before .before .before .before .before .before .before .before .before .before .before .before .before .before .before .before .before .before .before .before .before .before .before .before .before .before .before .before .before .if2) .left) ((c .before .before .before .before .before .before .before .before .before .before .before .before .before .before .before .before .before .before .before .before .before .before .before .before .before .before .before .before .before .before .before .before .before .branch) .result) ((c .before .before .before .before .before .before .before .before .before .before .before .before .before .before .before .before .before .before .before .before .before .before .before .before .before .before .before .before .before .before .before .before .before .branch) .last .1 .1 .1 .1 .1 .1 .1 .1 .0) ((c .before .before .before .before .before .before .before .before .before .before .before .before .before .before .before .before .before .before .before .before .before .before .before .before .before .before .before .before .before .before .before .before .before .branch) .last .1 .1 .1 .1 .1 .1 .0) (from-begin (g .k) (g .m) (g .limit) (g .nest - 1) true (now (g .mem)) (now (g .table)) ((c .before .before .before .before .before .before .before .before .before .before .before .before .before .before .before .before .before .before .before .before .before .before .before .before .before .before .before .before .before .before .before .before .before .before .before .before .before .enter) .result) (entered (g .from .regs) (coinIn (g .from .regs) (now (g .mem))) 0) (g .from .used + 1) (g .from .nodes + 2) (g .from .nodes + 1) ((c .before .before .before .before .before .before .before .before .before .before .before .before .before .before .before .before .before .before .before .before .before .before .before .before .before .before .before .before .before .before .before .before .before .branch) .result) ((c .before .before .before .before .before .before .before .before .before .before .before .before .before .before .before .before .before .before .before .before .before .before .before .before .before .before .before .before .before .before .before .before .before .branch) .last .1 .1 .1 .1 .1 .1 .1 .1 .0) ((c .before .before .before .before .before .before .before .before .before .before .before .before .before .before .before .before .before .before .before .before .before .before .before .before .before .before .before .before .before .before .before .before .before .branch) .last .1 .1 .1 .1 .1 .1 .0) ((c .before .before .before .before .before .before .before .before .before .before .before .before .before .before .before .before .before .before .before .before .before .before .before .before .before .before .before .before .before .before .before .before .before .before .before .before .before .enter) .ensures ∙ ap (λ (i : ℕ). walkedAt (entered (g .from .regs) i 0) (g .from .used + 1) 0 (g .from .nodes + 2) (g .from .nodes + 1)) ((c .before .before .before .before .before .before .before .before .before .before .before .before .before .before .before .before .before .before .before .before .before .before .before .before .before .before .before .before .before .before .before .before .before .before .before .before .before .before .before .before .before .before .before .before .before .before .before .before .coin-at) .ensures)) ((c .before .before .before .before .before .before .before .before .before .before .before .before .before .before .before .before .before .before .before .before .before .before .before .before .before .before .before .before .before .before .before .before .before .branch) .ensures)) ((c .before .before .before .before .before .before .before .before .before .before .before .before .before .before .before .before .before .before .before .before .before .before .before .before .before .if3) .left)) in let bk : ((c .before .before .before .before .before .before .before .before .before .before .before .before .before .before .before .before .before .before .before .exchange) .last .0) ≡ now (g .mem) = (put-back (now (g .mem)) ((c .before .before .before .before .before .before .before .before .before .before .before .before .before .before .before .before .before .before .before .before .before .before .before .before .before .before .before .before .before .before .before .before .before .branch) .last .1 .1 .1 .1 .1 .1 .0) ((c .before .before .before .before .before .before .before .before .before .before .before .before .before .before .before .before .before .before .before .before .before .before .before .before .before .before .before .before .before .before .before .before .before .before .before .before .before .before .before .before .before .before .before .copy) .last .1 .0) ((c .before .before .before .before .before .before .before .before .before .before .before .before .before .before .before .before .before .before .before .before .before .before .before .before .before .before .before .before .before .before .before .before .before .branch) .last .1 .1 .1 .1 .1 .1 .1 .0) ((c .before .before .before .before .before .before .before .before .before .before .before .before .before .before .before .before .before .before .before .exchange) .last .0) (omega (arith, fits (g .nest) (length (now (g .mem))) (length (now (g .scratch))) ((c .before .before .before .before .before .before .before .before .before .before .before .before .before .before .before .before .before .before .before .before .before .before .before .before .before .before .before .before .before .before .before .before .before .before .before .before .before .before .before .before .before .before .before .before .before .before .before .before .before .before .before .before .before .before .if1) .left) (as-long (g .nest) (g .m) (length (now (g .scratch))) (length (now (g .mem))) (length (now (g .scratch))) ((c .before .before .before .before .before .before .before .before .before .before .before .before .before .before .before .before .before .before .before .before .before .before .before .before .before .before .before .before .before .before .before .before .before .before .before .before .before .before .before .before .before .before .before .before .before .before .before .before .before .before .before .before .before .before .before .before .before .before) .pre .1 .0 .3) refl ((c .before .before .before .before .before .before .before .before .before .before .before .before .before .before .before .before .before .before .before .before .before .before .before .before .before .before .before .before .before .before .before .before .before .before .before .before .before .before .before .before .before .before .before .before .before .before .before .before .before .before .before .before .before .before .before .before .before .before) .pre .1 .1)), (c .before .before .before .before .before .before .before .before .before .before .before .before .before .before .before .before .before .before .before .before .before .before .before .before .before .before .before .before .before .before .before .before .before .before .before .before .before .before .before .before .before .before .before .copy) .kept .1 .0)) ((c .before .before .before .before .before .before .before .before .before .before .before .before .before .before .before .before .before .before .before .before .before .before .before .before .before .before .before .before .before .before .before .before .before .before .before .before .before .before .before .before .before .before .before .copy) .ensures) ((c .before .before .before .before .before .before .before .before .before .before .before .before .before .before .before .before .before .before .before .before .before .before .before .before .before .before .before .before .before .before .before .before .before .branch) .kept .1 .1 .1 .1 .1 .1 .0) ((c .before .before .before .before .before .before .before .before .before .before .before .before .before .before .before .before .before .before .before .exchange) .ensures .0)) in refused₁ (g .k) (g .m) (g .limit) (g .nest) (g .from .node) (g .from .nodes) (g .from .used) (g .from .regs) (now (g .mem)) (now (g .table)) ((c .before .before .before .before .before .before .before .before .before .before .before .before .before .before .before .before .before .before .before .before .before .before .before .before .before .before .before .before .before .before .before .before .before .before .before .before .before .before .before .before .before .before .before .before .before .before .before .before .before .before .before .before .before .before .if1) .left) (sym ((c .before .before .before .before .before .before .before .before .before .before .before .before .before .before .before .before .before .before .before .before .before .before .before .before .before .before .before .before .before .before .before .before .before .before .before .before .before .before .before .before .before .before .before .before .before .before .before .before .before .before .before .before .before .opening) .ensures) ∙ (c .before .before .before .before .before .before .before .before .before .before .before .before .before .before .before .before .before .before .before .before .before .before .before .before .before .before .before .before .before .before .before .before .before .before .before .before .before .before .before .before .before .before .before .before .before .before .before .before .before .before .before .before .if2) .left) ((c .before .before .before .before .before .before .before .before .before .before .before .before .before .before .before .before .before .before .before .before .before .before .before .before .before .before .before .before .before .before .before .before .before .branch) .result) ((c .before .before .before .before .before .before .before .before .before .before .before .before .before .before .before .before .before .before .before .before .before .before .before .before .before .before .before .before .before .before .before .before .before .branch) .last .1 .1 .1 .1 .1 .1 .1 .1 .0) ((c .before .before .before .before .before .before .before .before .before .before .before .before .before .before .before .before .before .before .before .before .before .before .before .before .before .before .before .before .before .before .before .before .before .branch) .last .1 .1 .1 .1 .1 .1 .0) lf (sym ((c .before .before .before .before .before .before .before .before .before .before .before .before .before .before .before .before .before .before .before .before .before .before .before .closing) .ensures ∙ ap (λ (i : ℕ). closingOf (g .k) (g .m) (g .limit) i ((c .before .before .before .before .before .before .before .before .before .before .before .before .before .before .before .before .before .before .before .before .before .before .before .before .before .before .before .before .before .before .before .before .before .branch) .result .used) ((c .before .before .before .before .before .before .before .before .before .before .before .before .before .before .before .before .before .before .before .before .before .before .before .before .before .before .before .before .before .before .before .before .before .branch) .result .regs) ((c .before .before .before .before .before .before .before .before .before .before .before .before .before .before .before .before .before .before .before .before .before .before .before .before .before .before .before .before .before .before .before .before .before .branch) .last .1 .1 .1 .1 .1 .1 .0)) ((c .before .before .before .before .before .before .before .before .before .before .before .before .before .before .before .before .before .before .before .before .before .before .before .before .before .before .before .before .before .before .before .before .before .before .before .before .before .before .before .before .before .before .before .before .before .before .before .before .coin-at) .ensures)) ∙ (c .before .before .before .before .before .before .before .before .before .before .before .before .before .before .before .before .before .before .before .before .before .before .if4) .left) ((c .before .before .before .before .before .before .before .before .before .before .before .before .before .before .before .before .before .before .before .exchange) .last .0) bk ((c .before .before .before .before .before .before .before .before .branch2) .result) ((c .before .before .before .before .before .before .before .before .branch2) .last .1 .1 .1 .1 .1 .1 .1 .1 .0) ((c .before .before .before .before .before .before .before .before .branch2) .last .1 .1 .1 .1 .1 .1 .0) _ (from-begin (g .k) (g .m) (g .limit) (g .nest - 1) true ((c .before .before .before .before .before .before .before .before .before .before .before .before .before .before .before .before .before .before .before .exchange) .last .0) ((c .before .before .before .before .before .before .before .before .before .before .before .before .before .before .before .before .before .before .before .before .before .before .before .before .before .before .before .before .before .before .before .before .before .branch) .last .1 .1 .1 .1 .1 .1 .1 .1 .0) ((c .before .before .before .before .before .before .before .before .before .before .before .before .enter2) .result) (entered (g .from .regs) (coinIn (g .from .regs) (now (g .mem))) 1) ((c .before .before .before .before .before .before .before .before .before .before .before .before .before .before .before .before .before .before .before .before .before .before .before .before .before .before .before .before .before .before .before .before .before .branch) .result .used + 1) ((c .before .before .before .before .before .before .before .before .before .before .before .before .before .before .before .before .before .before .before .before .before .before .before .before .before .before .before .before .before .before .before .before .before .branch) .result .nodes) (g .from .nodes + 2) ((c .before .before .before .before .before .before .before .before .branch2) .result) ((c .before .before .before .before .before .before .before .before .branch2) .last .1 .1 .1 .1 .1 .1 .1 .1 .0) ((c .before .before .before .before .before .before .before .before .branch2) .last .1 .1 .1 .1 .1 .1 .0) ((c .before .before .before .before .before .before .before .before .before .before .before .before .enter2) .ensures ∙ ap (λ (i : ℕ). walkedAt (entered (g .from .regs) i 1) ((c .before .before .before .before .before .before .before .before .before .before .before .before .before .before .before .before .before .before .before .before .before .before .before .before .before .before .before .before .before .before .before .before .before .branch) .result .used + 1) 0 ((c .before .before .before .before .before .before .before .before .before .before .before .before .before .before .before .before .before .before .before .before .before .before .before .before .before .before .before .before .before .before .before .before .before .branch) .result .nodes) (g .from .nodes + 2)) ((c .before .before .before .before .before .before .before .before .before .before .before .before .before .before .before .before .before .before .before .before .before .before .before .before .before .before .before .before .before .before .before .before .before .before .before .before .before .before .before .before .before .before .before .before .before .before .before .before .coin-at) .ensures)) ((c .before .before .before .before .before .before .before .before .branch2) .ensures)) ((c .if5) .taken)
+)
 
-fork-returns-6 : (t : ℕ) → fork-lts.Need-returns-6 (
-  refuse-reads.Asked,
-  refuse-reads.Learnt,
-  opening-reads.Asked,
-  opening-reads.Learnt,
-  coin-at-reads.Asked,
-  coin-at-reads.Learnt,
-  look-reads.Asked,
-  look-reads.Learnt,
-  copy-reads.Asked,
-  copy-reads.Learnt,
-  enter-reads.Asked,
-  enter-reads.Learnt,
-  branch-below t,
-  branch.Post,
-  closing-reads.Asked,
-  closing-reads.Learnt,
-  exchange-reads.Asked,
-  exchange-reads.Learnt,
-  agree-reads.Asked,
-  agree-reads.Learnt,
-  meeting-reads.Asked,
-  meeting-reads.Learnt,
-  leave-reads.Asked,
-  leave-reads.Learnt,
-  join-reads.Asked,
-  join-reads.Learnt,
-) (fork-at t) fork.Post
-fork-returns-6 t c = let g = (c .before .before .before .before .before .before .before .before .before .before .before .before .before .before .before .before .before .before .before .before .before .before .before .before .before .before .before .before .before .before .before .before .before .before .before .before .before .before .before .before .before .before .before .before .before .before .before .before .before .before .before .before .before .before .before .before .before .before .before .before .before .before .before .before .before) .args in let lf = (came₀ (g .k) (g .m) (g .limit) (g .nest) (g .from .node) (g .from .nodes) (g .from .used) (g .from .regs) (now (g .mem)) (now (g .table)) ((c .before .before .before .before .before .before .before .before .before .before .before .before .before .before .before .before .before .before .before .before .before .before .before .before .before .before .before .before .before .before .before .before .before .before .before .before .before .before .before .before .before .before .before .before .before .before .before .before .before .before .before .before .before .before .before .before .before .before .before .before .before .if1) .left) (sym ((c .before .before .before .before .before .before .before .before .before .before .before .before .before .before .before .before .before .before .before .before .before .before .before .before .before .before .before .before .before .before .before .before .before .before .before .before .before .before .before .before .before .before .before .before .before .before .before .before .before .before .before .before .before .before .before .before .before .before .before .before .opening) .ensures) ∙ (c .before .before .before .before .before .before .before .before .before .before .before .before .before .before .before .before .before .before .before .before .before .before .before .before .before .before .before .before .before .before .before .before .before .before .before .before .before .before .before .before .before .before .before .before .before .before .before .before .before .before .before .before .before .before .before .before .before .before .before .if2) .left) ((c .before .before .before .before .before .before .before .before .before .before .before .before .before .before .before .before .before .before .before .before .before .before .before .before .before .before .before .before .before .before .before .before .before .before .before .before .before .before .before .before .branch) .result) ((c .before .before .before .before .before .before .before .before .before .before .before .before .before .before .before .before .before .before .before .before .before .before .before .before .before .before .before .before .before .before .before .before .before .before .before .before .before .before .before .before .branch) .last .1 .1 .1 .1 .1 .1 .1 .1 .0) ((c .before .before .before .before .before .before .before .before .before .before .before .before .before .before .before .before .before .before .before .before .before .before .before .before .before .before .before .before .before .before .before .before .before .before .before .before .before .before .before .before .branch) .last .1 .1 .1 .1 .1 .1 .0) (from-begin (g .k) (g .m) (g .limit) (g .nest - 1) true (now (g .mem)) (now (g .table)) ((c .before .before .before .before .before .before .before .before .before .before .before .before .before .before .before .before .before .before .before .before .before .before .before .before .before .before .before .before .before .before .before .before .before .before .before .before .before .before .before .before .before .before .before .before .enter) .result) (entered (g .from .regs) (coinIn (g .from .regs) (now (g .mem))) 0) (g .from .used + 1) (g .from .nodes + 2) (g .from .nodes + 1) ((c .before .before .before .before .before .before .before .before .before .before .before .before .before .before .before .before .before .before .before .before .before .before .before .before .before .before .before .before .before .before .before .before .before .before .before .before .before .before .before .before .branch) .result) ((c .before .before .before .before .before .before .before .before .before .before .before .before .before .before .before .before .before .before .before .before .before .before .before .before .before .before .before .before .before .before .before .before .before .before .before .before .before .before .before .before .branch) .last .1 .1 .1 .1 .1 .1 .1 .1 .0) ((c .before .before .before .before .before .before .before .before .before .before .before .before .before .before .before .before .before .before .before .before .before .before .before .before .before .before .before .before .before .before .before .before .before .before .before .before .before .before .before .before .branch) .last .1 .1 .1 .1 .1 .1 .0) ((c .before .before .before .before .before .before .before .before .before .before .before .before .before .before .before .before .before .before .before .before .before .before .before .before .before .before .before .before .before .before .before .before .before .before .before .before .before .before .before .before .before .before .before .before .enter) .ensures ∙ ap (λ (i : ℕ). walkedAt (entered (g .from .regs) i 0) (g .from .used + 1) 0 (g .from .nodes + 2) (g .from .nodes + 1)) ((c .before .before .before .before .before .before .before .before .before .before .before .before .before .before .before .before .before .before .before .before .before .before .before .before .before .before .before .before .before .before .before .before .before .before .before .before .before .before .before .before .before .before .before .before .before .before .before .before .before .before .before .before .before .before .before .coin-at) .ensures)) ((c .before .before .before .before .before .before .before .before .before .before .before .before .before .before .before .before .before .before .before .before .before .before .before .before .before .before .before .before .before .before .before .before .before .before .before .before .before .before .before .before .branch) .ensures)) ((c .before .before .before .before .before .before .before .before .before .before .before .before .before .before .before .before .before .before .before .before .before .before .before .before .before .before .before .before .before .before .before .before .if3) .left)) in let bk : ((c .before .before .before .before .before .before .before .before .before .before .before .before .before .before .before .before .before .before .before .before .before .before .before .before .before .before .exchange) .last .0) ≡ now (g .mem) = (put-back (now (g .mem)) ((c .before .before .before .before .before .before .before .before .before .before .before .before .before .before .before .before .before .before .before .before .before .before .before .before .before .before .before .before .before .before .before .before .before .before .before .before .before .before .before .before .branch) .last .1 .1 .1 .1 .1 .1 .0) ((c .before .before .before .before .before .before .before .before .before .before .before .before .before .before .before .before .before .before .before .before .before .before .before .before .before .before .before .before .before .before .before .before .before .before .before .before .before .before .before .before .before .before .before .before .before .before .before .before .before .before .copy) .last .1 .0) ((c .before .before .before .before .before .before .before .before .before .before .before .before .before .before .before .before .before .before .before .before .before .before .before .before .before .before .before .before .before .before .before .before .before .before .before .before .before .before .before .before .branch) .last .1 .1 .1 .1 .1 .1 .1 .0) ((c .before .before .before .before .before .before .before .before .before .before .before .before .before .before .before .before .before .before .before .before .before .before .before .before .before .before .exchange) .last .0) (omega (arith, fits (g .nest) (length (now (g .mem))) (length (now (g .scratch))) ((c .before .before .before .before .before .before .before .before .before .before .before .before .before .before .before .before .before .before .before .before .before .before .before .before .before .before .before .before .before .before .before .before .before .before .before .before .before .before .before .before .before .before .before .before .before .before .before .before .before .before .before .before .before .before .before .before .before .before .before .before .before .if1) .left) (as-long (g .nest) (g .m) (length (now (g .scratch))) (length (now (g .mem))) (length (now (g .scratch))) ((c .before .before .before .before .before .before .before .before .before .before .before .before .before .before .before .before .before .before .before .before .before .before .before .before .before .before .before .before .before .before .before .before .before .before .before .before .before .before .before .before .before .before .before .before .before .before .before .before .before .before .before .before .before .before .before .before .before .before .before .before .before .before .before .before .before) .pre .1 .0 .3) refl ((c .before .before .before .before .before .before .before .before .before .before .before .before .before .before .before .before .before .before .before .before .before .before .before .before .before .before .before .before .before .before .before .before .before .before .before .before .before .before .before .before .before .before .before .before .before .before .before .before .before .before .before .before .before .before .before .before .before .before .before .before .before .before .before .before .before) .pre .1 .1)), (c .before .before .before .before .before .before .before .before .before .before .before .before .before .before .before .before .before .before .before .before .before .before .before .before .before .before .before .before .before .before .before .before .before .before .before .before .before .before .before .before .before .before .before .before .before .before .before .before .before .before .copy) .kept .1 .0)) ((c .before .before .before .before .before .before .before .before .before .before .before .before .before .before .before .before .before .before .before .before .before .before .before .before .before .before .before .before .before .before .before .before .before .before .before .before .before .before .before .before .before .before .before .before .before .before .before .before .before .before .copy) .ensures) ((c .before .before .before .before .before .before .before .before .before .before .before .before .before .before .before .before .before .before .before .before .before .before .before .before .before .before .before .before .before .before .before .before .before .before .before .before .before .before .before .before .branch) .kept .1 .1 .1 .1 .1 .1 .0) ((c .before .before .before .before .before .before .before .before .before .before .before .before .before .before .before .before .before .before .before .before .before .before .before .before .before .before .exchange) .ensures .0)) in let rt = (came₁ (g .k) (g .m) (g .limit) (g .nest) (g .from .node) (g .from .nodes) (g .from .used) (g .from .regs) (now (g .mem)) (now (g .table)) ((c .before .before .before .before .before .before .before .before .before .before .before .before .before .before .before .before .before .before .before .before .before .before .before .before .before .before .before .before .before .before .before .before .before .before .before .before .before .before .before .before .before .before .before .before .before .before .before .before .before .before .before .before .before .before .before .before .before .before .before .before .before .if1) .left) (sym ((c .before .before .before .before .before .before .before .before .before .before .before .before .before .before .before .before .before .before .before .before .before .before .before .before .before .before .before .before .before .before .before .before .before .before .before .before .before .before .before .before .before .before .before .before .before .before .before .before .before .before .before .before .before .before .before .before .before .before .before .before .opening) .ensures) ∙ (c .before .before .before .before .before .before .before .before .before .before .before .before .before .before .before .before .before .before .before .before .before .before .before .before .before .before .before .before .before .before .before .before .before .before .before .before .before .before .before .before .before .before .before .before .before .before .before .before .before .before .before .before .before .before .before .before .before .before .before .if2) .left) ((c .before .before .before .before .before .before .before .before .before .before .before .before .before .before .before .before .before .before .before .before .before .before .before .before .before .before .before .before .before .before .before .before .before .before .before .before .before .before .before .before .branch) .result) ((c .before .before .before .before .before .before .before .before .before .before .before .before .before .before .before .before .before .before .before .before .before .before .before .before .before .before .before .before .before .before .before .before .before .before .before .before .before .before .before .before .branch) .last .1 .1 .1 .1 .1 .1 .1 .1 .0) ((c .before .before .before .before .before .before .before .before .before .before .before .before .before .before .before .before .before .before .before .before .before .before .before .before .before .before .before .before .before .before .before .before .before .before .before .before .before .before .before .before .branch) .last .1 .1 .1 .1 .1 .1 .0) lf (sym ((c .before .before .before .before .before .before .before .before .before .before .before .before .before .before .before .before .before .before .before .before .before .before .before .before .before .before .before .before .before .before .closing) .ensures ∙ ap (λ (i : ℕ). closingOf (g .k) (g .m) (g .limit) i ((c .before .before .before .before .before .before .before .before .before .before .before .before .before .before .before .before .before .before .before .before .before .before .before .before .before .before .before .before .before .before .before .before .before .before .before .before .before .before .before .before .branch) .result .used) ((c .before .before .before .before .before .before .before .before .before .before .before .before .before .before .before .before .before .before .before .before .before .before .before .before .before .before .before .before .before .before .before .before .before .before .before .before .before .before .before .before .branch) .result .regs) ((c .before .before .before .before .before .before .before .before .before .before .before .before .before .before .before .before .before .before .before .before .before .before .before .before .before .before .before .before .before .before .before .before .before .before .before .before .before .before .before .before .branch) .last .1 .1 .1 .1 .1 .1 .0)) ((c .before .before .before .before .before .before .before .before .before .before .before .before .before .before .before .before .before .before .before .before .before .before .before .before .before .before .before .before .before .before .before .before .before .before .before .before .before .before .before .before .before .before .before .before .before .before .before .before .before .before .before .before .before .before .before .coin-at) .ensures)) ∙ (c .before .before .before .before .before .before .before .before .before .before .before .before .before .before .before .before .before .before .before .before .before .before .before .before .before .before .before .before .before .if4) .left) ((c .before .before .before .before .before .before .before .before .before .before .before .before .before .before .before .before .before .before .before .before .before .before .before .before .before .before .exchange) .last .0) bk ((c .before .before .before .before .before .before .before .before .before .before .before .before .before .before .before .branch2) .result) ((c .before .before .before .before .before .before .before .before .before .before .before .before .before .before .before .branch2) .last .1 .1 .1 .1 .1 .1 .1 .1 .0) ((c .before .before .before .before .before .before .before .before .before .before .before .before .before .before .before .branch2) .last .1 .1 .1 .1 .1 .1 .0) (from-begin (g .k) (g .m) (g .limit) (g .nest - 1) true ((c .before .before .before .before .before .before .before .before .before .before .before .before .before .before .before .before .before .before .before .before .before .before .before .before .before .before .exchange) .last .0) ((c .before .before .before .before .before .before .before .before .before .before .before .before .before .before .before .before .before .before .before .before .before .before .before .before .before .before .before .before .before .before .before .before .before .before .before .before .before .before .before .before .branch) .last .1 .1 .1 .1 .1 .1 .1 .1 .0) ((c .before .before .before .before .before .before .before .before .before .before .before .before .before .before .before .before .before .before .before .enter2) .result) (entered (g .from .regs) (coinIn (g .from .regs) (now (g .mem))) 1) ((c .before .before .before .before .before .before .before .before .before .before .before .before .before .before .before .before .before .before .before .before .before .before .before .before .before .before .before .before .before .before .before .before .before .before .before .before .before .before .before .before .branch) .result .used + 1) ((c .before .before .before .before .before .before .before .before .before .before .before .before .before .before .before .before .before .before .before .before .before .before .before .before .before .before .before .before .before .before .before .before .before .before .before .before .before .before .before .before .branch) .result .nodes) (g .from .nodes + 2) ((c .before .before .before .before .before .before .before .before .before .before .before .before .before .before .before .branch2) .result) ((c .before .before .before .before .before .before .before .before .before .before .before .before .before .before .before .branch2) .last .1 .1 .1 .1 .1 .1 .1 .1 .0) ((c .before .before .before .before .before .before .before .before .before .before .before .before .before .before .before .branch2) .last .1 .1 .1 .1 .1 .1 .0) ((c .before .before .before .before .before .before .before .before .before .before .before .before .before .before .before .before .before .before .before .enter2) .ensures ∙ ap (λ (i : ℕ). walkedAt (entered (g .from .regs) i 1) ((c .before .before .before .before .before .before .before .before .before .before .before .before .before .before .before .before .before .before .before .before .before .before .before .before .before .before .before .before .before .before .before .before .before .before .before .before .before .before .before .before .branch) .result .used + 1) 0 ((c .before .before .before .before .before .before .before .before .before .before .before .before .before .before .before .before .before .before .before .before .before .before .before .before .before .before .before .before .before .before .before .before .before .before .before .before .before .before .before .before .branch) .result .nodes) (g .from .nodes + 2)) ((c .before .before .before .before .before .before .before .before .before .before .before .before .before .before .before .before .before .before .before .before .before .before .before .before .before .before .before .before .before .before .before .before .before .before .before .before .before .before .before .before .before .before .before .before .before .before .before .before .before .before .before .before .before .before .before .coin-at) .ensures)) ((c .before .before .before .before .before .before .before .before .before .before .before .before .before .before .before .branch2) .ensures)) ((c .before .before .before .before .before .before .before .if5) .left)) in let td = ((c .before .before .before .before .agree) .ensures ∙ (ap (λ (x : Bool). sameWords (left ((c .before .before .before .before .before .before .before .before .before .before .before .before .before .before .before .before .before .before .before .before .before .before .before .before .before .before .before .before .before .before .before .before .before .before .before .before .before .before .before .before .branch) .result .regs) ((c .before .before .before .before .before .before .before .before .before .before .before .before .before .before .before .before .before .before .before .before .before .before .before .before .before .before .before .before .before .before .before .before .before .before .before .before .before .before .before .before .before .before .before .before .before .before .before .before .before .before .before .before .before .before .before .coin-at) .result) ((c .before .before .before .before .before .before .before .before .before .before .before .before .before .before .before .before .before .before .before .before .before .before .before .before .before .before .before .before .before .before .before .before .before .before .before .before .before .before .before .before .before .before .before .before .before .before .before .before .before .before .before .before .before .look) .result)) (left ((c .before .before .before .before .before .before .before .before .before .before .before .before .before .before .before .branch2) .result .regs) ((c .before .before .before .before .before .before .before .before .before .before .before .before .before .before .before .before .before .before .before .before .before .before .before .before .before .before .before .before .before .before .before .before .before .before .before .before .before .before .before .before .before .before .before .before .before .before .before .before .before .before .before .before .before .before .before .coin-at) .result) ((c .before .before .before .before .before .before .before .before .before .before .before .before .before .before .before .before .before .before .before .before .before .before .before .before .before .before .before .before .before .before .before .before .before .before .before .before .before .before .before .before .before .before .before .before .before .before .before .before .before .before .before .before .before .look) .result)) && x) (told-same (length (now (g .mem))) ((c .before .before .before .before .before .before .before .before .before .before .before .before .before .before .before .before .before .before .before .before .before .before .before .before .before .before .before .before .before .before .before .before .before .before .before .before .before .before .before .before .branch) .last .1 .1 .1 .1 .1 .1 .0) ((c .before .before .before .before .before .before .before .before .before .before .before .before .before .before .before .before .before .before .before .before .before .before .before .before .before .before .exchange) .last .1 .0) ((c .before .before .before .before .before .before .before .before .before .before .before .before .before .before .before .branch2) .last .1 .1 .1 .1 .1 .1 .1 .0) ((c .before .before .before .before .before .before .before .before .before .before .before .before .before .before .before .branch2) .last .1 .1 .1 .1 .1 .1 .0) _ (omega (arith, fits (g .nest) (length (now (g .mem))) (length (now (g .scratch))) ((c .before .before .before .before .before .before .before .before .before .before .before .before .before .before .before .before .before .before .before .before .before .before .before .before .before .before .before .before .before .before .before .before .before .before .before .before .before .before .before .before .before .before .before .before .before .before .before .before .before .before .before .before .before .before .before .before .before .before .before .before .before .if1) .left) (as-long (g .nest) (g .m) (length (now (g .scratch))) (length (now (g .mem))) (length (now (g .scratch))) ((c .before .before .before .before .before .before .before .before .before .before .before .before .before .before .before .before .before .before .before .before .before .before .before .before .before .before .before .before .before .before .before .before .before .before .before .before .before .before .before .before .before .before .before .before .before .before .before .before .before .before .before .before .before .before .before .before .before .before .before .before .before .before .before .before .before) .pre .1 .0 .3) refl ((c .before .before .before .before .before .before .before .before .before .before .before .before .before .before .before .before .before .before .before .before .before .before .before .before .before .before .before .before .before .before .before .before .before .before .before .before .before .before .before .before .before .before .before .before .before .before .before .before .before .before .before .before .before .before .before .before .before .before .before .before .before .before .before .before .before) .pre .1 .1)), ((c .before .before .before .before .before .before .before .before .before .before .before .before .before .before .before .before .before .before .before .before .before .before .before .before .before .before .exchange) .kept .1 .0 ∙ ((c .before .before .before .before .before .before .before .before .before .before .before .before .before .before .before .before .before .before .before .before .before .before .before .before .before .before .before .before .before .before .before .before .before .before .before .before .before .scratch2) .given .1 ∙ (c .before .before .before .before .before .before .before .before .before .before .before .before .before .before .before .before .before .before .before .before .before .before .before .before .before .before .before .before .before .before .before .before .before .before .before .before .before .before .before .before .before .before .before .before .before .before .before .before .before .before .copy) .kept .1 .0)))) ((c .before .before .before .before .before .before .before .before .before .before .before .before .before .before .before .before .before .before .before .before .before .before .before .before .before .before .before .before .before .before .before .before .before .before .before .before .before .before .before .before .branch) .kept .1 .1 .1 .1 .1 .1 .0) (((c .before .before .before .before .before .before .before .before .before .before .before .before .before .before .before .branch2) .kept .1 .1 .1 .1 .1 .1 .0 ∙ ((c .before .before .before .before .before .before .before .before .before .before .before .before .before .before .before .before .before .before .before .before .before .before .before .before .before .before .exchange) .kept .0 ∙ (c .before .before .before .before .before .before .before .before .before .before .before .before .before .before .before .before .before .before .before .before .before .before .before .before .before .before .before .before .before .before .before .before .before .before .before .before .before .before .before .before .branch) .kept .1 .1 .1 .1 .1 .1 .0))) ((c .before .before .before .before .before .before .before .before .before .before .before .before .before .before .before .before .before .before .before .before .before .before .before .before .before .before .exchange) .ensures .1) refl) ∙ ap (λ (i : ℕ). sameWords (left ((c .before .before .before .before .before .before .before .before .before .before .before .before .before .before .before .before .before .before .before .before .before .before .before .before .before .before .before .before .before .before .before .before .before .before .before .before .before .before .before .before .branch) .result .regs) i ((c .before .before .before .before .before .before .before .before .before .before .before .before .before .before .before .before .before .before .before .before .before .before .before .before .before .before .before .before .before .before .before .before .before .before .before .before .before .before .before .before .before .before .before .before .before .before .before .before .before .before .before .before .before .look) .result)) (left ((c .before .before .before .before .before .before .before .before .before .before .before .before .before .before .before .branch2) .result .regs) i ((c .before .before .before .before .before .before .before .before .before .before .before .before .before .before .before .before .before .before .before .before .before .before .before .before .before .before .before .before .before .before .before .before .before .before .before .before .before .before .before .before .before .before .before .before .before .before .before .before .before .before .before .before .before .look) .result)) && sameWords ((c .before .before .before .before .before .before .before .before .before .before .before .before .before .before .before .before .before .before .before .before .before .before .before .before .before .before .before .before .before .before .before .before .before .before .before .before .before .before .before .before .branch) .last .1 .1 .1 .1 .1 .1 .0) ((c .before .before .before .before .before .before .before .before .before .before .before .before .before .before .before .branch2) .last .1 .1 .1 .1 .1 .1 .0)) ((c .before .before .before .before .before .before .before .before .before .before .before .before .before .before .before .before .before .before .before .before .before .before .before .before .before .before .before .before .before .before .before .before .before .before .before .before .before .before .before .before .before .before .before .before .before .before .before .before .before .before .before .before .before .before .before .coin-at) .ensures))) in shut₁ (g .k) (g .m) (g .limit) (g .nest) (g .from .node) (g .from .nodes) (g .from .used) (g .from .regs) (now (g .mem)) (now (g .table)) ((c .before .before .before .before .before .before .before .before .before .before .before .before .before .before .before .before .before .before .before .before .before .before .before .before .before .before .before .before .before .before .before .before .before .before .before .before .before .before .before .before .before .before .before .before .before .before .before .before .before .before .before .before .before .before .before .before .before .before .before .before .before .if1) .left) (sym ((c .before .before .before .before .before .before .before .before .before .before .before .before .before .before .before .before .before .before .before .before .before .before .before .before .before .before .before .before .before .before .before .before .before .before .before .before .before .before .before .before .before .before .before .before .before .before .before .before .before .before .before .before .before .before .before .before .before .before .before .before .opening) .ensures) ∙ (c .before .before .before .before .before .before .before .before .before .before .before .before .before .before .before .before .before .before .before .before .before .before .before .before .before .before .before .before .before .before .before .before .before .before .before .before .before .before .before .before .before .before .before .before .before .before .before .before .before .before .before .before .before .before .before .before .before .before .before .if2) .left) ((c .before .before .before .before .before .before .before .before .before .before .before .before .before .before .before .before .before .before .before .before .before .before .before .before .before .before .before .before .before .before .before .before .before .before .before .before .before .before .before .before .branch) .result) ((c .before .before .before .before .before .before .before .before .before .before .before .before .before .before .before .before .before .before .before .before .before .before .before .before .before .before .before .before .before .before .before .before .before .before .before .before .before .before .before .before .branch) .last .1 .1 .1 .1 .1 .1 .1 .1 .0) ((c .before .before .before .before .before .before .before .before .before .before .before .before .before .before .before .before .before .before .before .before .before .before .before .before .before .before .before .before .before .before .before .before .before .before .before .before .before .before .before .before .branch) .last .1 .1 .1 .1 .1 .1 .0) lf (sym ((c .before .before .before .before .before .before .before .before .before .before .before .before .before .before .before .before .before .before .before .before .before .before .before .before .before .before .before .before .before .before .closing) .ensures ∙ ap (λ (i : ℕ). closingOf (g .k) (g .m) (g .limit) i ((c .before .before .before .before .before .before .before .before .before .before .before .before .before .before .before .before .before .before .before .before .before .before .before .before .before .before .before .before .before .before .before .before .before .before .before .before .before .before .before .before .branch) .result .used) ((c .before .before .before .before .before .before .before .before .before .before .before .before .before .before .before .before .before .before .before .before .before .before .before .before .before .before .before .before .before .before .before .before .before .before .before .before .before .before .before .before .branch) .result .regs) ((c .before .before .before .before .before .before .before .before .before .before .before .before .before .before .before .before .before .before .before .before .before .before .before .before .before .before .before .before .before .before .before .before .before .before .before .before .before .before .before .before .branch) .last .1 .1 .1 .1 .1 .1 .0)) ((c .before .before .before .before .before .before .before .before .before .before .before .before .before .before .before .before .before .before .before .before .before .before .before .before .before .before .before .before .before .before .before .before .before .before .before .before .before .before .before .before .before .before .before .before .before .before .before .before .before .before .before .before .before .before .before .coin-at) .ensures)) ∙ (c .before .before .before .before .before .before .before .before .before .before .before .before .before .before .before .before .before .before .before .before .before .before .before .before .before .before .before .before .before .if4) .left) ((c .before .before .before .before .before .before .before .before .before .before .before .before .before .before .before .before .before .before .before .before .before .before .before .before .before .before .exchange) .last .0) bk ((c .before .before .before .before .before .before .before .before .before .before .before .before .before .before .before .branch2) .result) ((c .before .before .before .before .before .before .before .before .before .before .before .before .before .before .before .branch2) .last .1 .1 .1 .1 .1 .1 .1 .1 .0) ((c .before .before .before .before .before .before .before .before .before .before .before .before .before .before .before .branch2) .last .1 .1 .1 .1 .1 .1 .0) rt ((c .before .before .before .before .before .before .before .before .before .before .before .before .before .before .before .before .before .before .before .before .before .before .before .before .before .before .before .before .before .before .before .before .before .before .before .before .before .before .before .before .before .before .before .before .before .before .before .before .before .before .before .before .before .look) .result) ((c .before .before .before .before .before .before .before .before .before .before .before .before .before .before .before .before .before .before .before .before .before .before .before .before .before .before .before .before .before .before .before .before .before .before .before .before .before .before .before .before .before .before .before .before .before .before .before .before .before .before .before .before .before .look) .ensures ∙ ap (λ (i : ℕ). getD (g .from .regs) i 0) ((c .before .before .before .before .before .before .before .before .before .before .before .before .before .before .before .before .before .before .before .before .before .before .before .before .before .before .before .before .before .before .before .before .before .before .before .before .before .before .before .before .before .before .before .before .before .before .before .before .before .before .before .before .before .before .before .coin-at) .ensures)) ((c .before .before .before .before .agree) .result) td _ _ _ _ ((c .before .before .meeting) .ensures ∙ ap (λ (i : ℕ). meetingOf (g .k) (g .m) (g .limit) i ((c .before .before .before .before .before .before .before .before .before .before .before .before .before .before .before .branch2) .result .nodes) ((c .before .before .before .before .before .before .before .before .before .before .before .before .before .before .before .branch2) .result .used) ((c .before .before .before .before .before .before .before .before .before .before .before .before .before .before .before .branch2) .result .regs) ((c .before .before .before .before .before .before .before .before .before .before .before .before .before .before .before .branch2) .last .1 .1 .1 .1 .1 .1 .0) ((c .before .before .before .before .agree) .result)) ((c .before .before .before .before .before .before .before .before .before .before .before .before .before .before .before .before .before .before .before .before .before .before .before .before .before .before .before .before .before .before .before .before .before .before .before .before .before .before .before .before .before .before .before .before .before .before .before .before .before .before .before .before .before .before .before .coin-at) .ensures)) ((c .before .if6) .taken) ((c .refuse4) .ensures)
+roomy : (t : ℕ) (c : fork-lts.Else1 (fork-said t) (fork-at t) fork.Post) → let start′ = c .before .before .before .before in Room (start′ .args .nest) (length (now (start′ .args .mem))) (length (now (start′ .args .scratch)))
+roomy t c =
+    let start′ = c .before .before .before .before in
+    as-long (start′ .args .nest) (start′ .args .m) (length (now (start′ .args .scratch))) (length (now (start′ .args .mem))) (length (now (start′ .args .scratch))) (start′ .pre .1 .0 .3) refl (start′ .pre .1 .1)
 
-fork-join-requires : (t : ℕ) → fork-lts.Need-join-requires (
-  refuse-reads.Asked,
-  refuse-reads.Learnt,
-  opening-reads.Asked,
-  opening-reads.Learnt,
-  coin-at-reads.Asked,
-  coin-at-reads.Learnt,
-  look-reads.Asked,
-  look-reads.Learnt,
-  copy-reads.Asked,
-  copy-reads.Learnt,
-  enter-reads.Asked,
-  enter-reads.Learnt,
-  branch-below t,
-  branch.Post,
-  closing-reads.Asked,
-  closing-reads.Learnt,
-  exchange-reads.Asked,
-  exchange-reads.Learnt,
-  agree-reads.Asked,
-  agree-reads.Learnt,
-  meeting-reads.Asked,
-  meeting-reads.Learnt,
-  leave-reads.Asked,
-  leave-reads.Learnt,
-  join-reads.Asked,
-  join-reads.Learnt,
-) (fork-at t) fork.Post
-fork-join-requires t c κs = let g = (c .before .before .before .before .before .before .before .before .before .before .before .before .before .before .before .before .before .before .before .before .before .before .before .before .before .before .before .before .before .before .before .before .before .before .before .before .before .before .before .before .before .before .before .before .before .before .before .before .before .before .before .before .before .before .before .before .before .before .before .before .before .before .before .before .before .before) .args in let lf = (came₀ (g .k) (g .m) (g .limit) (g .nest) (g .from .node) (g .from .nodes) (g .from .used) (g .from .regs) (now (g .mem)) (now (g .table)) ((c .before .before .before .before .before .before .before .before .before .before .before .before .before .before .before .before .before .before .before .before .before .before .before .before .before .before .before .before .before .before .before .before .before .before .before .before .before .before .before .before .before .before .before .before .before .before .before .before .before .before .before .before .before .before .before .before .before .before .before .before .before .before .if1) .left) (sym ((c .before .before .before .before .before .before .before .before .before .before .before .before .before .before .before .before .before .before .before .before .before .before .before .before .before .before .before .before .before .before .before .before .before .before .before .before .before .before .before .before .before .before .before .before .before .before .before .before .before .before .before .before .before .before .before .before .before .before .before .before .before .opening) .ensures) ∙ (c .before .before .before .before .before .before .before .before .before .before .before .before .before .before .before .before .before .before .before .before .before .before .before .before .before .before .before .before .before .before .before .before .before .before .before .before .before .before .before .before .before .before .before .before .before .before .before .before .before .before .before .before .before .before .before .before .before .before .before .before .if2) .left) ((c .before .before .before .before .before .before .before .before .before .before .before .before .before .before .before .before .before .before .before .before .before .before .before .before .before .before .before .before .before .before .before .before .before .before .before .before .before .before .before .before .before .branch) .result) ((c .before .before .before .before .before .before .before .before .before .before .before .before .before .before .before .before .before .before .before .before .before .before .before .before .before .before .before .before .before .before .before .before .before .before .before .before .before .before .before .before .before .branch) .last .1 .1 .1 .1 .1 .1 .1 .1 .0) ((c .before .before .before .before .before .before .before .before .before .before .before .before .before .before .before .before .before .before .before .before .before .before .before .before .before .before .before .before .before .before .before .before .before .before .before .before .before .before .before .before .before .branch) .last .1 .1 .1 .1 .1 .1 .0) (from-begin (g .k) (g .m) (g .limit) (g .nest - 1) true (now (g .mem)) (now (g .table)) ((c .before .before .before .before .before .before .before .before .before .before .before .before .before .before .before .before .before .before .before .before .before .before .before .before .before .before .before .before .before .before .before .before .before .before .before .before .before .before .before .before .before .before .before .before .before .enter) .result) (entered (g .from .regs) (coinIn (g .from .regs) (now (g .mem))) 0) (g .from .used + 1) (g .from .nodes + 2) (g .from .nodes + 1) ((c .before .before .before .before .before .before .before .before .before .before .before .before .before .before .before .before .before .before .before .before .before .before .before .before .before .before .before .before .before .before .before .before .before .before .before .before .before .before .before .before .before .branch) .result) ((c .before .before .before .before .before .before .before .before .before .before .before .before .before .before .before .before .before .before .before .before .before .before .before .before .before .before .before .before .before .before .before .before .before .before .before .before .before .before .before .before .before .branch) .last .1 .1 .1 .1 .1 .1 .1 .1 .0) ((c .before .before .before .before .before .before .before .before .before .before .before .before .before .before .before .before .before .before .before .before .before .before .before .before .before .before .before .before .before .before .before .before .before .before .before .before .before .before .before .before .before .branch) .last .1 .1 .1 .1 .1 .1 .0) ((c .before .before .before .before .before .before .before .before .before .before .before .before .before .before .before .before .before .before .before .before .before .before .before .before .before .before .before .before .before .before .before .before .before .before .before .before .before .before .before .before .before .before .before .before .before .enter) .ensures ∙ ap (λ (i : ℕ). walkedAt (entered (g .from .regs) i 0) (g .from .used + 1) 0 (g .from .nodes + 2) (g .from .nodes + 1)) ((c .before .before .before .before .before .before .before .before .before .before .before .before .before .before .before .before .before .before .before .before .before .before .before .before .before .before .before .before .before .before .before .before .before .before .before .before .before .before .before .before .before .before .before .before .before .before .before .before .before .before .before .before .before .before .before .before .coin-at) .ensures)) ((c .before .before .before .before .before .before .before .before .before .before .before .before .before .before .before .before .before .before .before .before .before .before .before .before .before .before .before .before .before .before .before .before .before .before .before .before .before .before .before .before .before .branch) .ensures)) ((c .before .before .before .before .before .before .before .before .before .before .before .before .before .before .before .before .before .before .before .before .before .before .before .before .before .before .before .before .before .before .before .before .before .if3) .left)) in let bk : ((c .before .before .before .before .before .before .before .before .before .before .before .before .before .before .before .before .before .before .before .before .before .before .before .before .before .before .before .exchange) .last .0) ≡ now (g .mem) = (put-back (now (g .mem)) ((c .before .before .before .before .before .before .before .before .before .before .before .before .before .before .before .before .before .before .before .before .before .before .before .before .before .before .before .before .before .before .before .before .before .before .before .before .before .before .before .before .before .branch) .last .1 .1 .1 .1 .1 .1 .0) ((c .before .before .before .before .before .before .before .before .before .before .before .before .before .before .before .before .before .before .before .before .before .before .before .before .before .before .before .before .before .before .before .before .before .before .before .before .before .before .before .before .before .before .before .before .before .before .before .before .before .before .before .copy) .last .1 .0) ((c .before .before .before .before .before .before .before .before .before .before .before .before .before .before .before .before .before .before .before .before .before .before .before .before .before .before .before .before .before .before .before .before .before .before .before .before .before .before .before .before .before .branch) .last .1 .1 .1 .1 .1 .1 .1 .0) ((c .before .before .before .before .before .before .before .before .before .before .before .before .before .before .before .before .before .before .before .before .before .before .before .before .before .before .before .exchange) .last .0) (omega (arith, fits (g .nest) (length (now (g .mem))) (length (now (g .scratch))) ((c .before .before .before .before .before .before .before .before .before .before .before .before .before .before .before .before .before .before .before .before .before .before .before .before .before .before .before .before .before .before .before .before .before .before .before .before .before .before .before .before .before .before .before .before .before .before .before .before .before .before .before .before .before .before .before .before .before .before .before .before .before .before .if1) .left) (as-long (g .nest) (g .m) (length (now (g .scratch))) (length (now (g .mem))) (length (now (g .scratch))) ((c .before .before .before .before .before .before .before .before .before .before .before .before .before .before .before .before .before .before .before .before .before .before .before .before .before .before .before .before .before .before .before .before .before .before .before .before .before .before .before .before .before .before .before .before .before .before .before .before .before .before .before .before .before .before .before .before .before .before .before .before .before .before .before .before .before .before) .pre .1 .0 .3) refl ((c .before .before .before .before .before .before .before .before .before .before .before .before .before .before .before .before .before .before .before .before .before .before .before .before .before .before .before .before .before .before .before .before .before .before .before .before .before .before .before .before .before .before .before .before .before .before .before .before .before .before .before .before .before .before .before .before .before .before .before .before .before .before .before .before .before .before) .pre .1 .1)), (c .before .before .before .before .before .before .before .before .before .before .before .before .before .before .before .before .before .before .before .before .before .before .before .before .before .before .before .before .before .before .before .before .before .before .before .before .before .before .before .before .before .before .before .before .before .before .before .before .before .before .before .copy) .kept .1 .0)) ((c .before .before .before .before .before .before .before .before .before .before .before .before .before .before .before .before .before .before .before .before .before .before .before .before .before .before .before .before .before .before .before .before .before .before .before .before .before .before .before .before .before .before .before .before .before .before .before .before .before .before .before .copy) .ensures) ((c .before .before .before .before .before .before .before .before .before .before .before .before .before .before .before .before .before .before .before .before .before .before .before .before .before .before .before .before .before .before .before .before .before .before .before .before .before .before .before .before .before .branch) .kept .1 .1 .1 .1 .1 .1 .0) ((c .before .before .before .before .before .before .before .before .before .before .before .before .before .before .before .before .before .before .before .before .before .before .before .before .before .before .before .exchange) .ensures .0)) in let rt = (came₁ (g .k) (g .m) (g .limit) (g .nest) (g .from .node) (g .from .nodes) (g .from .used) (g .from .regs) (now (g .mem)) (now (g .table)) ((c .before .before .before .before .before .before .before .before .before .before .before .before .before .before .before .before .before .before .before .before .before .before .before .before .before .before .before .before .before .before .before .before .before .before .before .before .before .before .before .before .before .before .before .before .before .before .before .before .before .before .before .before .before .before .before .before .before .before .before .before .before .before .if1) .left) (sym ((c .before .before .before .before .before .before .before .before .before .before .before .before .before .before .before .before .before .before .before .before .before .before .before .before .before .before .before .before .before .before .before .before .before .before .before .before .before .before .before .before .before .before .before .before .before .before .before .before .before .before .before .before .before .before .before .before .before .before .before .before .before .opening) .ensures) ∙ (c .before .before .before .before .before .before .before .before .before .before .before .before .before .before .before .before .before .before .before .before .before .before .before .before .before .before .before .before .before .before .before .before .before .before .before .before .before .before .before .before .before .before .before .before .before .before .before .before .before .before .before .before .before .before .before .before .before .before .before .before .if2) .left) ((c .before .before .before .before .before .before .before .before .before .before .before .before .before .before .before .before .before .before .before .before .before .before .before .before .before .before .before .before .before .before .before .before .before .before .before .before .before .before .before .before .before .branch) .result) ((c .before .before .before .before .before .before .before .before .before .before .before .before .before .before .before .before .before .before .before .before .before .before .before .before .before .before .before .before .before .before .before .before .before .before .before .before .before .before .before .before .before .branch) .last .1 .1 .1 .1 .1 .1 .1 .1 .0) ((c .before .before .before .before .before .before .before .before .before .before .before .before .before .before .before .before .before .before .before .before .before .before .before .before .before .before .before .before .before .before .before .before .before .before .before .before .before .before .before .before .before .branch) .last .1 .1 .1 .1 .1 .1 .0) lf (sym ((c .before .before .before .before .before .before .before .before .before .before .before .before .before .before .before .before .before .before .before .before .before .before .before .before .before .before .before .before .before .before .before .closing) .ensures ∙ ap (λ (i : ℕ). closingOf (g .k) (g .m) (g .limit) i ((c .before .before .before .before .before .before .before .before .before .before .before .before .before .before .before .before .before .before .before .before .before .before .before .before .before .before .before .before .before .before .before .before .before .before .before .before .before .before .before .before .before .branch) .result .used) ((c .before .before .before .before .before .before .before .before .before .before .before .before .before .before .before .before .before .before .before .before .before .before .before .before .before .before .before .before .before .before .before .before .before .before .before .before .before .before .before .before .before .branch) .result .regs) ((c .before .before .before .before .before .before .before .before .before .before .before .before .before .before .before .before .before .before .before .before .before .before .before .before .before .before .before .before .before .before .before .before .before .before .before .before .before .before .before .before .before .branch) .last .1 .1 .1 .1 .1 .1 .0)) ((c .before .before .before .before .before .before .before .before .before .before .before .before .before .before .before .before .before .before .before .before .before .before .before .before .before .before .before .before .before .before .before .before .before .before .before .before .before .before .before .before .before .before .before .before .before .before .before .before .before .before .before .before .before .before .before .before .coin-at) .ensures)) ∙ (c .before .before .before .before .before .before .before .before .before .before .before .before .before .before .before .before .before .before .before .before .before .before .before .before .before .before .before .before .before .before .if4) .left) ((c .before .before .before .before .before .before .before .before .before .before .before .before .before .before .before .before .before .before .before .before .before .before .before .before .before .before .before .exchange) .last .0) bk ((c .before .before .before .before .before .before .before .before .before .before .before .before .before .before .before .before .branch2) .result) ((c .before .before .before .before .before .before .before .before .before .before .before .before .before .before .before .before .branch2) .last .1 .1 .1 .1 .1 .1 .1 .1 .0) ((c .before .before .before .before .before .before .before .before .before .before .before .before .before .before .before .before .branch2) .last .1 .1 .1 .1 .1 .1 .0) (from-begin (g .k) (g .m) (g .limit) (g .nest - 1) true ((c .before .before .before .before .before .before .before .before .before .before .before .before .before .before .before .before .before .before .before .before .before .before .before .before .before .before .before .exchange) .last .0) ((c .before .before .before .before .before .before .before .before .before .before .before .before .before .before .before .before .before .before .before .before .before .before .before .before .before .before .before .before .before .before .before .before .before .before .before .before .before .before .before .before .before .branch) .last .1 .1 .1 .1 .1 .1 .1 .1 .0) ((c .before .before .before .before .before .before .before .before .before .before .before .before .before .before .before .before .before .before .before .before .enter2) .result) (entered (g .from .regs) (coinIn (g .from .regs) (now (g .mem))) 1) ((c .before .before .before .before .before .before .before .before .before .before .before .before .before .before .before .before .before .before .before .before .before .before .before .before .before .before .before .before .before .before .before .before .before .before .before .before .before .before .before .before .before .branch) .result .used + 1) ((c .before .before .before .before .before .before .before .before .before .before .before .before .before .before .before .before .before .before .before .before .before .before .before .before .before .before .before .before .before .before .before .before .before .before .before .before .before .before .before .before .before .branch) .result .nodes) (g .from .nodes + 2) ((c .before .before .before .before .before .before .before .before .before .before .before .before .before .before .before .before .branch2) .result) ((c .before .before .before .before .before .before .before .before .before .before .before .before .before .before .before .before .branch2) .last .1 .1 .1 .1 .1 .1 .1 .1 .0) ((c .before .before .before .before .before .before .before .before .before .before .before .before .before .before .before .before .branch2) .last .1 .1 .1 .1 .1 .1 .0) ((c .before .before .before .before .before .before .before .before .before .before .before .before .before .before .before .before .before .before .before .before .enter2) .ensures ∙ ap (λ (i : ℕ). walkedAt (entered (g .from .regs) i 1) ((c .before .before .before .before .before .before .before .before .before .before .before .before .before .before .before .before .before .before .before .before .before .before .before .before .before .before .before .before .before .before .before .before .before .before .before .before .before .before .before .before .before .branch) .result .used + 1) 0 ((c .before .before .before .before .before .before .before .before .before .before .before .before .before .before .before .before .before .before .before .before .before .before .before .before .before .before .before .before .before .before .before .before .before .before .before .before .before .before .before .before .before .branch) .result .nodes) (g .from .nodes + 2)) ((c .before .before .before .before .before .before .before .before .before .before .before .before .before .before .before .before .before .before .before .before .before .before .before .before .before .before .before .before .before .before .before .before .before .before .before .before .before .before .before .before .before .before .before .before .before .before .before .before .before .before .before .before .before .before .before .before .coin-at) .ensures)) ((c .before .before .before .before .before .before .before .before .before .before .before .before .before .before .before .before .branch2) .ensures)) ((c .before .before .before .before .before .before .before .before .if5) .left)) in let td = ((c .before .before .before .before .before .agree) .ensures ∙ (ap (λ (x : Bool). sameWords (left ((c .before .before .before .before .before .before .before .before .before .before .before .before .before .before .before .before .before .before .before .before .before .before .before .before .before .before .before .before .before .before .before .before .before .before .before .before .before .before .before .before .before .branch) .result .regs) ((c .before .before .before .before .before .before .before .before .before .before .before .before .before .before .before .before .before .before .before .before .before .before .before .before .before .before .before .before .before .before .before .before .before .before .before .before .before .before .before .before .before .before .before .before .before .before .before .before .before .before .before .before .before .before .before .before .coin-at) .result) ((c .before .before .before .before .before .before .before .before .before .before .before .before .before .before .before .before .before .before .before .before .before .before .before .before .before .before .before .before .before .before .before .before .before .before .before .before .before .before .before .before .before .before .before .before .before .before .before .before .before .before .before .before .before .before .look) .result)) (left ((c .before .before .before .before .before .before .before .before .before .before .before .before .before .before .before .before .branch2) .result .regs) ((c .before .before .before .before .before .before .before .before .before .before .before .before .before .before .before .before .before .before .before .before .before .before .before .before .before .before .before .before .before .before .before .before .before .before .before .before .before .before .before .before .before .before .before .before .before .before .before .before .before .before .before .before .before .before .before .before .coin-at) .result) ((c .before .before .before .before .before .before .before .before .before .before .before .before .before .before .before .before .before .before .before .before .before .before .before .before .before .before .before .before .before .before .before .before .before .before .before .before .before .before .before .before .before .before .before .before .before .before .before .before .before .before .before .before .before .before .look) .result)) && x) (told-same (length (now (g .mem))) ((c .before .before .before .before .before .before .before .before .before .before .before .before .before .before .before .before .before .before .before .before .before .before .before .before .before .before .before .before .before .before .before .before .before .before .before .before .before .before .before .before .before .branch) .last .1 .1 .1 .1 .1 .1 .0) ((c .before .before .before .before .before .before .before .before .before .before .before .before .before .before .before .before .before .before .before .before .before .before .before .before .before .before .before .exchange) .last .1 .0) ((c .before .before .before .before .before .before .before .before .before .before .before .before .before .before .before .before .branch2) .last .1 .1 .1 .1 .1 .1 .1 .0) ((c .before .before .before .before .before .before .before .before .before .before .before .before .before .before .before .before .branch2) .last .1 .1 .1 .1 .1 .1 .0) _ (omega (arith, fits (g .nest) (length (now (g .mem))) (length (now (g .scratch))) ((c .before .before .before .before .before .before .before .before .before .before .before .before .before .before .before .before .before .before .before .before .before .before .before .before .before .before .before .before .before .before .before .before .before .before .before .before .before .before .before .before .before .before .before .before .before .before .before .before .before .before .before .before .before .before .before .before .before .before .before .before .before .before .if1) .left) (as-long (g .nest) (g .m) (length (now (g .scratch))) (length (now (g .mem))) (length (now (g .scratch))) ((c .before .before .before .before .before .before .before .before .before .before .before .before .before .before .before .before .before .before .before .before .before .before .before .before .before .before .before .before .before .before .before .before .before .before .before .before .before .before .before .before .before .before .before .before .before .before .before .before .before .before .before .before .before .before .before .before .before .before .before .before .before .before .before .before .before .before) .pre .1 .0 .3) refl ((c .before .before .before .before .before .before .before .before .before .before .before .before .before .before .before .before .before .before .before .before .before .before .before .before .before .before .before .before .before .before .before .before .before .before .before .before .before .before .before .before .before .before .before .before .before .before .before .before .before .before .before .before .before .before .before .before .before .before .before .before .before .before .before .before .before .before) .pre .1 .1)), ((c .before .before .before .before .before .before .before .before .before .before .before .before .before .before .before .before .before .before .before .before .before .before .before .before .before .before .before .exchange) .kept .1 .0 ∙ ((c .before .before .before .before .before .before .before .before .before .before .before .before .before .before .before .before .before .before .before .before .before .before .before .before .before .before .before .before .before .before .before .before .before .before .before .before .before .before .scratch2) .given .1 ∙ (c .before .before .before .before .before .before .before .before .before .before .before .before .before .before .before .before .before .before .before .before .before .before .before .before .before .before .before .before .before .before .before .before .before .before .before .before .before .before .before .before .before .before .before .before .before .before .before .before .before .before .before .copy) .kept .1 .0)))) ((c .before .before .before .before .before .before .before .before .before .before .before .before .before .before .before .before .before .before .before .before .before .before .before .before .before .before .before .before .before .before .before .before .before .before .before .before .before .before .before .before .before .branch) .kept .1 .1 .1 .1 .1 .1 .0) (((c .before .before .before .before .before .before .before .before .before .before .before .before .before .before .before .before .branch2) .kept .1 .1 .1 .1 .1 .1 .0 ∙ ((c .before .before .before .before .before .before .before .before .before .before .before .before .before .before .before .before .before .before .before .before .before .before .before .before .before .before .before .exchange) .kept .0 ∙ (c .before .before .before .before .before .before .before .before .before .before .before .before .before .before .before .before .before .before .before .before .before .before .before .before .before .before .before .before .before .before .before .before .before .before .before .before .before .before .before .before .before .branch) .kept .1 .1 .1 .1 .1 .1 .0))) ((c .before .before .before .before .before .before .before .before .before .before .before .before .before .before .before .before .before .before .before .before .before .before .before .before .before .before .before .exchange) .ensures .1) refl) ∙ ap (λ (i : ℕ). sameWords (left ((c .before .before .before .before .before .before .before .before .before .before .before .before .before .before .before .before .before .before .before .before .before .before .before .before .before .before .before .before .before .before .before .before .before .before .before .before .before .before .before .before .before .branch) .result .regs) i ((c .before .before .before .before .before .before .before .before .before .before .before .before .before .before .before .before .before .before .before .before .before .before .before .before .before .before .before .before .before .before .before .before .before .before .before .before .before .before .before .before .before .before .before .before .before .before .before .before .before .before .before .before .before .before .look) .result)) (left ((c .before .before .before .before .before .before .before .before .before .before .before .before .before .before .before .before .branch2) .result .regs) i ((c .before .before .before .before .before .before .before .before .before .before .before .before .before .before .before .before .before .before .before .before .before .before .before .before .before .before .before .before .before .before .before .before .before .before .before .before .before .before .before .before .before .before .before .before .before .before .before .before .before .before .before .before .before .before .look) .result)) && sameWords ((c .before .before .before .before .before .before .before .before .before .before .before .before .before .before .before .before .before .before .before .before .before .before .before .before .before .before .before .before .before .before .before .before .before .before .before .before .before .before .before .before .before .branch) .last .1 .1 .1 .1 .1 .1 .0) ((c .before .before .before .before .before .before .before .before .before .before .before .before .before .before .before .before .branch2) .last .1 .1 .1 .1 .1 .1 .0)) ((c .before .before .before .before .before .before .before .before .before .before .before .before .before .before .before .before .before .before .before .before .before .before .before .before .before .before .before .before .before .before .before .before .before .before .before .before .before .before .before .before .before .before .before .before .before .before .before .before .before .before .before .before .before .before .before .before .coin-at) .ensures))) in let j = met-below (g .k) (g .m) (g .limit) (coinIn (g .from .regs) (now (g .mem))) ((c .before .before .before .before .before .before .before .before .before .before .before .before .before .before .before .before .branch2) .result .nodes) ((c .before .before .before .before .before .before .before .before .before .before .before .before .before .before .before .before .branch2) .result .used) ((c .before .before .before .before .before .before .before .before .before .before .before .before .before .before .before .before .branch2) .result .regs) ((c .before .before .before .before .before .before .before .before .before .before .before .before .before .before .before .before .branch2) .last .1 .1 .1 .1 .1 .1 .0) ((c .before .before .before .before .before .agree) .result) (sym ((c .before .before .before .meeting) .ensures ∙ ap (λ (i : ℕ). meetingOf (g .k) (g .m) (g .limit) i ((c .before .before .before .before .before .before .before .before .before .before .before .before .before .before .before .before .branch2) .result .nodes) ((c .before .before .before .before .before .before .before .before .before .before .before .before .before .before .before .before .branch2) .result .used) ((c .before .before .before .before .before .before .before .before .before .before .before .before .before .before .before .before .branch2) .result .regs) ((c .before .before .before .before .before .before .before .before .before .before .before .before .before .before .before .before .branch2) .last .1 .1 .1 .1 .1 .1 .0) ((c .before .before .before .before .before .agree) .result)) ((c .before .before .before .before .before .before .before .before .before .before .before .before .before .before .before .before .before .before .before .before .before .before .before .before .before .before .before .before .before .before .before .before .before .before .before .before .before .before .before .before .before .before .before .before .before .before .before .before .before .before .before .before .before .before .before .before .coin-at) .ensures)) ∙ (c .before .before .if6) .left) in let o = opened (g .limit) (g .from .nodes) (g .from .used) (sym ((c .before .before .before .before .before .before .before .before .before .before .before .before .before .before .before .before .before .before .before .before .before .before .before .before .before .before .before .before .before .before .before .before .before .before .before .before .before .before .before .before .before .before .before .before .before .before .before .before .before .before .before .before .before .before .before .before .before .before .before .before .before .opening) .ensures) ∙ (c .before .before .before .before .before .before .before .before .before .before .before .before .before .before .before .before .before .before .before .before .before .before .before .before .before .before .before .before .before .before .before .before .before .before .before .before .before .before .before .before .before .before .before .before .before .before .before .before .before .before .before .before .before .before .before .before .before .before .before .before .if2) .left) in (o .1, j .1, omega (arith, j .0, (c .before .before .before .before .before .before .before .before .before .before .before .before .before .before .before .before .before .before .before .before .before .before .before .before .before .before .before .before .before .before .before .before .before .before .before .before .before .before .before .before .before .before .before .before .before .before .before .before .before .before .before .before .before .before .before .before .before .before .before .before .before .before .before .before .before .before) .fits .limit), short (g .k) (g .m) (g .limit) (g .nest) (g .from .node) (g .from .nodes) (g .from .used) (g .from .regs) (now (g .mem)) (now (g .table)) ((c .before .before .before .before .before .before .before .before .before .before .before .before .before .before .before .before .before .before .before .before .before .before .before .before .before .before .before .before .before .before .before .before .before .before .before .before .before .before .before .before .before .before .before .before .before .before .before .before .before .before .before .before .before .before .before .before .before .before .before .before .before .before .if1) .left) (sym ((c .before .before .before .before .before .before .before .before .before .before .before .before .before .before .before .before .before .before .before .before .before .before .before .before .before .before .before .before .before .before .before .before .before .before .before .before .before .before .before .before .before .before .before .before .before .before .before .before .before .before .before .before .before .before .before .before .before .before .before .before .before .opening) .ensures) ∙ (c .before .before .before .before .before .before .before .before .before .before .before .before .before .before .before .before .before .before .before .before .before .before .before .before .before .before .before .before .before .before .before .before .before .before .before .before .before .before .before .before .before .before .before .before .before .before .before .before .before .before .before .before .before .before .before .before .before .before .before .before .if2) .left) ((c .before .before .before .before .before .before .before .before .before .before .before .before .before .before .before .before .before .before .before .before .before .before .before .before .before .before .before .before .before .before .before .before .before .before .before .before .before .before .before .before .before .branch) .result) ((c .before .before .before .before .before .before .before .before .before .before .before .before .before .before .before .before .before .before .before .before .before .before .before .before .before .before .before .before .before .before .before .before .before .before .before .before .before .before .before .before .before .branch) .last .1 .1 .1 .1 .1 .1 .1 .1 .0) ((c .before .before .before .before .before .before .before .before .before .before .before .before .before .before .before .before .before .before .before .before .before .before .before .before .before .before .before .before .before .before .before .before .before .before .before .before .before .before .before .before .before .branch) .last .1 .1 .1 .1 .1 .1 .0) lf (sym ((c .before .before .before .before .before .before .before .before .before .before .before .before .before .before .before .before .before .before .before .before .before .before .before .before .before .before .before .before .before .before .before .closing) .ensures ∙ ap (λ (i : ℕ). closingOf (g .k) (g .m) (g .limit) i ((c .before .before .before .before .before .before .before .before .before .before .before .before .before .before .before .before .before .before .before .before .before .before .before .before .before .before .before .before .before .before .before .before .before .before .before .before .before .before .before .before .before .branch) .result .used) ((c .before .before .before .before .before .before .before .before .before .before .before .before .before .before .before .before .before .before .before .before .before .before .before .before .before .before .before .before .before .before .before .before .before .before .before .before .before .before .before .before .before .branch) .result .regs) ((c .before .before .before .before .before .before .before .before .before .before .before .before .before .before .before .before .before .before .before .before .before .before .before .before .before .before .before .before .before .before .before .before .before .before .before .before .before .before .before .before .before .branch) .last .1 .1 .1 .1 .1 .1 .0)) ((c .before .before .before .before .before .before .before .before .before .before .before .before .before .before .before .before .before .before .before .before .before .before .before .before .before .before .before .before .before .before .before .before .before .before .before .before .before .before .before .before .before .before .before .before .before .before .before .before .before .before .before .before .before .before .before .before .coin-at) .ensures)) ∙ (c .before .before .before .before .before .before .before .before .before .before .before .before .before .before .before .before .before .before .before .before .before .before .before .before .before .before .before .before .before .before .if4) .left) ((c .before .before .before .before .before .before .before .before .before .before .before .before .before .before .before .before .before .before .before .before .before .before .before .before .before .before .before .exchange) .last .0) bk ((c .before .before .before .before .before .before .before .before .before .before .before .before .before .before .before .before .branch2) .result) ((c .before .before .before .before .before .before .before .before .before .before .before .before .before .before .before .before .branch2) .last .1 .1 .1 .1 .1 .1 .1 .1 .0) ((c .before .before .before .before .before .before .before .before .before .before .before .before .before .before .before .before .branch2) .last .1 .1 .1 .1 .1 .1 .0) rt ((c .before .before .before .before .before .before .before .before .before .before .before .before .before .before .before .before .before .before .before .before .before .before .before .before .before .before .before .before .before .before .before .before .before .before .before .before .before .before .before .before .before .before .before .before .before .before .before .before .before .before .before .before .before .before .look) .result) ((c .before .before .before .before .before .before .before .before .before .before .before .before .before .before .before .before .before .before .before .before .before .before .before .before .before .before .before .before .before .before .before .before .before .before .before .before .before .before .before .before .before .before .before .before .before .before .before .before .before .before .before .before .before .before .look) .ensures ∙ ap (λ (i : ℕ). getD (g .from .regs) i 0) ((c .before .before .before .before .before .before .before .before .before .before .before .before .before .before .before .before .before .before .before .before .before .before .before .before .before .before .before .before .before .before .before .before .before .before .before .before .before .before .before .before .before .before .before .before .before .before .before .before .before .before .before .before .before .before .before .before .coin-at) .ensures)) ((c .before .before .before .before .before .agree) .result) td)
+room : (t : ℕ) (c : fork-lts.Else1 (fork-said t) (fork-at t) fork.Post) → let start′ = c .before .before .before .before in length (now (start′ .args .mem)) ≤ length (now (start′ .args .scratch))
+room t c =
+    let start′ = c .before .before .before .before in
+    fits (start′ .args .nest) (length (now (start′ .args .mem))) (length (now (start′ .args .scratch))) (c .if1 .left) (roomy t c)
 
-fork-returns-7 : (t : ℕ) → fork-lts.Need-returns-7 (
-  refuse-reads.Asked,
-  refuse-reads.Learnt,
-  opening-reads.Asked,
-  opening-reads.Learnt,
-  coin-at-reads.Asked,
-  coin-at-reads.Learnt,
-  look-reads.Asked,
-  look-reads.Learnt,
-  copy-reads.Asked,
-  copy-reads.Learnt,
-  enter-reads.Asked,
-  enter-reads.Learnt,
-  branch-below t,
-  branch.Post,
-  closing-reads.Asked,
-  closing-reads.Learnt,
-  exchange-reads.Asked,
-  exchange-reads.Learnt,
-  agree-reads.Asked,
-  agree-reads.Learnt,
-  meeting-reads.Asked,
-  meeting-reads.Learnt,
-  leave-reads.Asked,
-  leave-reads.Learnt,
-  join-reads.Asked,
-  join-reads.Learnt,
-) (fork-at t) fork.Post
-fork-returns-7 t c = let g = (c .before .before .before .before .before .before .before .before .before .before .before .before .before .before .before .before .before .before .before .before .before .before .before .before .before .before .before .before .before .before .before .before .before .before .before .before .before .before .before .before .before .before .before .before .before .before .before .before .before .before .before .before .before .before .before .before .before .before .before .before .before .before .before .before .before .before .before .before .before) .args in let lf = (came₀ (g .k) (g .m) (g .limit) (g .nest) (g .from .node) (g .from .nodes) (g .from .used) (g .from .regs) (now (g .mem)) (now (g .table)) ((c .before .before .before .before .before .before .before .before .before .before .before .before .before .before .before .before .before .before .before .before .before .before .before .before .before .before .before .before .before .before .before .before .before .before .before .before .before .before .before .before .before .before .before .before .before .before .before .before .before .before .before .before .before .before .before .before .before .before .before .before .before .before .before .before .before .if1) .left) (sym ((c .before .before .before .before .before .before .before .before .before .before .before .before .before .before .before .before .before .before .before .before .before .before .before .before .before .before .before .before .before .before .before .before .before .before .before .before .before .before .before .before .before .before .before .before .before .before .before .before .before .before .before .before .before .before .before .before .before .before .before .before .before .before .before .before .opening) .ensures) ∙ (c .before .before .before .before .before .before .before .before .before .before .before .before .before .before .before .before .before .before .before .before .before .before .before .before .before .before .before .before .before .before .before .before .before .before .before .before .before .before .before .before .before .before .before .before .before .before .before .before .before .before .before .before .before .before .before .before .before .before .before .before .before .before .before .if2) .left) ((c .before .before .before .before .before .before .before .before .before .before .before .before .before .before .before .before .before .before .before .before .before .before .before .before .before .before .before .before .before .before .before .before .before .before .before .before .before .before .before .before .before .before .before .before .branch) .result) ((c .before .before .before .before .before .before .before .before .before .before .before .before .before .before .before .before .before .before .before .before .before .before .before .before .before .before .before .before .before .before .before .before .before .before .before .before .before .before .before .before .before .before .before .before .branch) .last .1 .1 .1 .1 .1 .1 .1 .1 .0) ((c .before .before .before .before .before .before .before .before .before .before .before .before .before .before .before .before .before .before .before .before .before .before .before .before .before .before .before .before .before .before .before .before .before .before .before .before .before .before .before .before .before .before .before .before .branch) .last .1 .1 .1 .1 .1 .1 .0) (from-begin (g .k) (g .m) (g .limit) (g .nest - 1) true (now (g .mem)) (now (g .table)) ((c .before .before .before .before .before .before .before .before .before .before .before .before .before .before .before .before .before .before .before .before .before .before .before .before .before .before .before .before .before .before .before .before .before .before .before .before .before .before .before .before .before .before .before .before .before .before .before .before .enter) .result) (entered (g .from .regs) (coinIn (g .from .regs) (now (g .mem))) 0) (g .from .used + 1) (g .from .nodes + 2) (g .from .nodes + 1) ((c .before .before .before .before .before .before .before .before .before .before .before .before .before .before .before .before .before .before .before .before .before .before .before .before .before .before .before .before .before .before .before .before .before .before .before .before .before .before .before .before .before .before .before .before .branch) .result) ((c .before .before .before .before .before .before .before .before .before .before .before .before .before .before .before .before .before .before .before .before .before .before .before .before .before .before .before .before .before .before .before .before .before .before .before .before .before .before .before .before .before .before .before .before .branch) .last .1 .1 .1 .1 .1 .1 .1 .1 .0) ((c .before .before .before .before .before .before .before .before .before .before .before .before .before .before .before .before .before .before .before .before .before .before .before .before .before .before .before .before .before .before .before .before .before .before .before .before .before .before .before .before .before .before .before .before .branch) .last .1 .1 .1 .1 .1 .1 .0) ((c .before .before .before .before .before .before .before .before .before .before .before .before .before .before .before .before .before .before .before .before .before .before .before .before .before .before .before .before .before .before .before .before .before .before .before .before .before .before .before .before .before .before .before .before .before .before .before .before .enter) .ensures ∙ ap (λ (i : ℕ). walkedAt (entered (g .from .regs) i 0) (g .from .used + 1) 0 (g .from .nodes + 2) (g .from .nodes + 1)) ((c .before .before .before .before .before .before .before .before .before .before .before .before .before .before .before .before .before .before .before .before .before .before .before .before .before .before .before .before .before .before .before .before .before .before .before .before .before .before .before .before .before .before .before .before .before .before .before .before .before .before .before .before .before .before .before .before .before .before .before .coin-at) .ensures)) ((c .before .before .before .before .before .before .before .before .before .before .before .before .before .before .before .before .before .before .before .before .before .before .before .before .before .before .before .before .before .before .before .before .before .before .before .before .before .before .before .before .before .before .before .before .branch) .ensures)) ((c .before .before .before .before .before .before .before .before .before .before .before .before .before .before .before .before .before .before .before .before .before .before .before .before .before .before .before .before .before .before .before .before .before .before .before .before .if3) .left)) in let bk : ((c .before .before .before .before .before .before .before .before .before .before .before .before .before .before .before .before .before .before .before .before .before .before .before .before .before .before .before .before .before .before .exchange) .last .0) ≡ now (g .mem) = (put-back (now (g .mem)) ((c .before .before .before .before .before .before .before .before .before .before .before .before .before .before .before .before .before .before .before .before .before .before .before .before .before .before .before .before .before .before .before .before .before .before .before .before .before .before .before .before .before .before .before .before .branch) .last .1 .1 .1 .1 .1 .1 .0) ((c .before .before .before .before .before .before .before .before .before .before .before .before .before .before .before .before .before .before .before .before .before .before .before .before .before .before .before .before .before .before .before .before .before .before .before .before .before .before .before .before .before .before .before .before .before .before .before .before .before .before .before .before .before .before .copy) .last .1 .0) ((c .before .before .before .before .before .before .before .before .before .before .before .before .before .before .before .before .before .before .before .before .before .before .before .before .before .before .before .before .before .before .before .before .before .before .before .before .before .before .before .before .before .before .before .before .branch) .last .1 .1 .1 .1 .1 .1 .1 .0) ((c .before .before .before .before .before .before .before .before .before .before .before .before .before .before .before .before .before .before .before .before .before .before .before .before .before .before .before .before .before .before .exchange) .last .0) (omega (arith, fits (g .nest) (length (now (g .mem))) (length (now (g .scratch))) ((c .before .before .before .before .before .before .before .before .before .before .before .before .before .before .before .before .before .before .before .before .before .before .before .before .before .before .before .before .before .before .before .before .before .before .before .before .before .before .before .before .before .before .before .before .before .before .before .before .before .before .before .before .before .before .before .before .before .before .before .before .before .before .before .before .before .if1) .left) (as-long (g .nest) (g .m) (length (now (g .scratch))) (length (now (g .mem))) (length (now (g .scratch))) ((c .before .before .before .before .before .before .before .before .before .before .before .before .before .before .before .before .before .before .before .before .before .before .before .before .before .before .before .before .before .before .before .before .before .before .before .before .before .before .before .before .before .before .before .before .before .before .before .before .before .before .before .before .before .before .before .before .before .before .before .before .before .before .before .before .before .before .before .before .before) .pre .1 .0 .3) refl ((c .before .before .before .before .before .before .before .before .before .before .before .before .before .before .before .before .before .before .before .before .before .before .before .before .before .before .before .before .before .before .before .before .before .before .before .before .before .before .before .before .before .before .before .before .before .before .before .before .before .before .before .before .before .before .before .before .before .before .before .before .before .before .before .before .before .before .before .before .before) .pre .1 .1)), (c .before .before .before .before .before .before .before .before .before .before .before .before .before .before .before .before .before .before .before .before .before .before .before .before .before .before .before .before .before .before .before .before .before .before .before .before .before .before .before .before .before .before .before .before .before .before .before .before .before .before .before .before .before .before .copy) .kept .1 .0)) ((c .before .before .before .before .before .before .before .before .before .before .before .before .before .before .before .before .before .before .before .before .before .before .before .before .before .before .before .before .before .before .before .before .before .before .before .before .before .before .before .before .before .before .before .before .before .before .before .before .before .before .before .before .before .before .copy) .ensures) ((c .before .before .before .before .before .before .before .before .before .before .before .before .before .before .before .before .before .before .before .before .before .before .before .before .before .before .before .before .before .before .before .before .before .before .before .before .before .before .before .before .before .before .before .before .branch) .kept .1 .1 .1 .1 .1 .1 .0) ((c .before .before .before .before .before .before .before .before .before .before .before .before .before .before .before .before .before .before .before .before .before .before .before .before .before .before .before .before .before .before .exchange) .ensures .0)) in let rt = (came₁ (g .k) (g .m) (g .limit) (g .nest) (g .from .node) (g .from .nodes) (g .from .used) (g .from .regs) (now (g .mem)) (now (g .table)) ((c .before .before .before .before .before .before .before .before .before .before .before .before .before .before .before .before .before .before .before .before .before .before .before .before .before .before .before .before .before .before .before .before .before .before .before .before .before .before .before .before .before .before .before .before .before .before .before .before .before .before .before .before .before .before .before .before .before .before .before .before .before .before .before .before .before .if1) .left) (sym ((c .before .before .before .before .before .before .before .before .before .before .before .before .before .before .before .before .before .before .before .before .before .before .before .before .before .before .before .before .before .before .before .before .before .before .before .before .before .before .before .before .before .before .before .before .before .before .before .before .before .before .before .before .before .before .before .before .before .before .before .before .before .before .before .before .opening) .ensures) ∙ (c .before .before .before .before .before .before .before .before .before .before .before .before .before .before .before .before .before .before .before .before .before .before .before .before .before .before .before .before .before .before .before .before .before .before .before .before .before .before .before .before .before .before .before .before .before .before .before .before .before .before .before .before .before .before .before .before .before .before .before .before .before .before .before .if2) .left) ((c .before .before .before .before .before .before .before .before .before .before .before .before .before .before .before .before .before .before .before .before .before .before .before .before .before .before .before .before .before .before .before .before .before .before .before .before .before .before .before .before .before .before .before .before .branch) .result) ((c .before .before .before .before .before .before .before .before .before .before .before .before .before .before .before .before .before .before .before .before .before .before .before .before .before .before .before .before .before .before .before .before .before .before .before .before .before .before .before .before .before .before .before .before .branch) .last .1 .1 .1 .1 .1 .1 .1 .1 .0) ((c .before .before .before .before .before .before .before .before .before .before .before .before .before .before .before .before .before .before .before .before .before .before .before .before .before .before .before .before .before .before .before .before .before .before .before .before .before .before .before .before .before .before .before .before .branch) .last .1 .1 .1 .1 .1 .1 .0) lf (sym ((c .before .before .before .before .before .before .before .before .before .before .before .before .before .before .before .before .before .before .before .before .before .before .before .before .before .before .before .before .before .before .before .before .before .before .closing) .ensures ∙ ap (λ (i : ℕ). closingOf (g .k) (g .m) (g .limit) i ((c .before .before .before .before .before .before .before .before .before .before .before .before .before .before .before .before .before .before .before .before .before .before .before .before .before .before .before .before .before .before .before .before .before .before .before .before .before .before .before .before .before .before .before .before .branch) .result .used) ((c .before .before .before .before .before .before .before .before .before .before .before .before .before .before .before .before .before .before .before .before .before .before .before .before .before .before .before .before .before .before .before .before .before .before .before .before .before .before .before .before .before .before .before .before .branch) .result .regs) ((c .before .before .before .before .before .before .before .before .before .before .before .before .before .before .before .before .before .before .before .before .before .before .before .before .before .before .before .before .before .before .before .before .before .before .before .before .before .before .before .before .before .before .before .before .branch) .last .1 .1 .1 .1 .1 .1 .0)) ((c .before .before .before .before .before .before .before .before .before .before .before .before .before .before .before .before .before .before .before .before .before .before .before .before .before .before .before .before .before .before .before .before .before .before .before .before .before .before .before .before .before .before .before .before .before .before .before .before .before .before .before .before .before .before .before .before .before .before .before .coin-at) .ensures)) ∙ (c .before .before .before .before .before .before .before .before .before .before .before .before .before .before .before .before .before .before .before .before .before .before .before .before .before .before .before .before .before .before .before .before .before .if4) .left) ((c .before .before .before .before .before .before .before .before .before .before .before .before .before .before .before .before .before .before .before .before .before .before .before .before .before .before .before .before .before .before .exchange) .last .0) bk ((c .before .before .before .before .before .before .before .before .before .before .before .before .before .before .before .before .before .before .before .branch2) .result) ((c .before .before .before .before .before .before .before .before .before .before .before .before .before .before .before .before .before .before .before .branch2) .last .1 .1 .1 .1 .1 .1 .1 .1 .0) ((c .before .before .before .before .before .before .before .before .before .before .before .before .before .before .before .before .before .before .before .branch2) .last .1 .1 .1 .1 .1 .1 .0) (from-begin (g .k) (g .m) (g .limit) (g .nest - 1) true ((c .before .before .before .before .before .before .before .before .before .before .before .before .before .before .before .before .before .before .before .before .before .before .before .before .before .before .before .before .before .before .exchange) .last .0) ((c .before .before .before .before .before .before .before .before .before .before .before .before .before .before .before .before .before .before .before .before .before .before .before .before .before .before .before .before .before .before .before .before .before .before .before .before .before .before .before .before .before .before .before .before .branch) .last .1 .1 .1 .1 .1 .1 .1 .1 .0) ((c .before .before .before .before .before .before .before .before .before .before .before .before .before .before .before .before .before .before .before .before .before .before .before .enter2) .result) (entered (g .from .regs) (coinIn (g .from .regs) (now (g .mem))) 1) ((c .before .before .before .before .before .before .before .before .before .before .before .before .before .before .before .before .before .before .before .before .before .before .before .before .before .before .before .before .before .before .before .before .before .before .before .before .before .before .before .before .before .before .before .before .branch) .result .used + 1) ((c .before .before .before .before .before .before .before .before .before .before .before .before .before .before .before .before .before .before .before .before .before .before .before .before .before .before .before .before .before .before .before .before .before .before .before .before .before .before .before .before .before .before .before .before .branch) .result .nodes) (g .from .nodes + 2) ((c .before .before .before .before .before .before .before .before .before .before .before .before .before .before .before .before .before .before .before .branch2) .result) ((c .before .before .before .before .before .before .before .before .before .before .before .before .before .before .before .before .before .before .before .branch2) .last .1 .1 .1 .1 .1 .1 .1 .1 .0) ((c .before .before .before .before .before .before .before .before .before .before .before .before .before .before .before .before .before .before .before .branch2) .last .1 .1 .1 .1 .1 .1 .0) ((c .before .before .before .before .before .before .before .before .before .before .before .before .before .before .before .before .before .before .before .before .before .before .before .enter2) .ensures ∙ ap (λ (i : ℕ). walkedAt (entered (g .from .regs) i 1) ((c .before .before .before .before .before .before .before .before .before .before .before .before .before .before .before .before .before .before .before .before .before .before .before .before .before .before .before .before .before .before .before .before .before .before .before .before .before .before .before .before .before .before .before .before .branch) .result .used + 1) 0 ((c .before .before .before .before .before .before .before .before .before .before .before .before .before .before .before .before .before .before .before .before .before .before .before .before .before .before .before .before .before .before .before .before .before .before .before .before .before .before .before .before .before .before .before .before .branch) .result .nodes) (g .from .nodes + 2)) ((c .before .before .before .before .before .before .before .before .before .before .before .before .before .before .before .before .before .before .before .before .before .before .before .before .before .before .before .before .before .before .before .before .before .before .before .before .before .before .before .before .before .before .before .before .before .before .before .before .before .before .before .before .before .before .before .before .before .before .before .coin-at) .ensures)) ((c .before .before .before .before .before .before .before .before .before .before .before .before .before .before .before .before .before .before .before .branch2) .ensures)) ((c .before .before .before .before .before .before .before .before .before .before .before .if5) .left)) in let td = ((c .before .before .before .before .before .before .before .before .agree) .ensures ∙ (ap (λ (x : Bool). sameWords (left ((c .before .before .before .before .before .before .before .before .before .before .before .before .before .before .before .before .before .before .before .before .before .before .before .before .before .before .before .before .before .before .before .before .before .before .before .before .before .before .before .before .before .before .before .before .branch) .result .regs) ((c .before .before .before .before .before .before .before .before .before .before .before .before .before .before .before .before .before .before .before .before .before .before .before .before .before .before .before .before .before .before .before .before .before .before .before .before .before .before .before .before .before .before .before .before .before .before .before .before .before .before .before .before .before .before .before .before .before .before .before .coin-at) .result) ((c .before .before .before .before .before .before .before .before .before .before .before .before .before .before .before .before .before .before .before .before .before .before .before .before .before .before .before .before .before .before .before .before .before .before .before .before .before .before .before .before .before .before .before .before .before .before .before .before .before .before .before .before .before .before .before .before .before .look) .result)) (left ((c .before .before .before .before .before .before .before .before .before .before .before .before .before .before .before .before .before .before .before .branch2) .result .regs) ((c .before .before .before .before .before .before .before .before .before .before .before .before .before .before .before .before .before .before .before .before .before .before .before .before .before .before .before .before .before .before .before .before .before .before .before .before .before .before .before .before .before .before .before .before .before .before .before .before .before .before .before .before .before .before .before .before .before .before .before .coin-at) .result) ((c .before .before .before .before .before .before .before .before .before .before .before .before .before .before .before .before .before .before .before .before .before .before .before .before .before .before .before .before .before .before .before .before .before .before .before .before .before .before .before .before .before .before .before .before .before .before .before .before .before .before .before .before .before .before .before .before .before .look) .result)) && x) (told-same (length (now (g .mem))) ((c .before .before .before .before .before .before .before .before .before .before .before .before .before .before .before .before .before .before .before .before .before .before .before .before .before .before .before .before .before .before .before .before .before .before .before .before .before .before .before .before .before .before .before .before .branch) .last .1 .1 .1 .1 .1 .1 .0) ((c .before .before .before .before .before .before .before .before .before .before .before .before .before .before .before .before .before .before .before .before .before .before .before .before .before .before .before .before .before .before .exchange) .last .1 .0) ((c .before .before .before .before .before .before .before .before .before .before .before .before .before .before .before .before .before .before .before .branch2) .last .1 .1 .1 .1 .1 .1 .1 .0) ((c .before .before .before .before .before .before .before .before .before .before .before .before .before .before .before .before .before .before .before .branch2) .last .1 .1 .1 .1 .1 .1 .0) _ (omega (arith, fits (g .nest) (length (now (g .mem))) (length (now (g .scratch))) ((c .before .before .before .before .before .before .before .before .before .before .before .before .before .before .before .before .before .before .before .before .before .before .before .before .before .before .before .before .before .before .before .before .before .before .before .before .before .before .before .before .before .before .before .before .before .before .before .before .before .before .before .before .before .before .before .before .before .before .before .before .before .before .before .before .before .if1) .left) (as-long (g .nest) (g .m) (length (now (g .scratch))) (length (now (g .mem))) (length (now (g .scratch))) ((c .before .before .before .before .before .before .before .before .before .before .before .before .before .before .before .before .before .before .before .before .before .before .before .before .before .before .before .before .before .before .before .before .before .before .before .before .before .before .before .before .before .before .before .before .before .before .before .before .before .before .before .before .before .before .before .before .before .before .before .before .before .before .before .before .before .before .before .before .before) .pre .1 .0 .3) refl ((c .before .before .before .before .before .before .before .before .before .before .before .before .before .before .before .before .before .before .before .before .before .before .before .before .before .before .before .before .before .before .before .before .before .before .before .before .before .before .before .before .before .before .before .before .before .before .before .before .before .before .before .before .before .before .before .before .before .before .before .before .before .before .before .before .before .before .before .before .before) .pre .1 .1)), ((c .before .before .before .before .before .before .before .before .before .before .before .before .before .before .before .before .before .before .before .before .before .before .before .before .before .before .before .before .before .before .exchange) .kept .1 .0 ∙ ((c .before .before .before .before .before .before .before .before .before .before .before .before .before .before .before .before .before .before .before .before .before .before .before .before .before .before .before .before .before .before .before .before .before .before .before .before .before .before .before .before .before .scratch2) .given .1 ∙ (c .before .before .before .before .before .before .before .before .before .before .before .before .before .before .before .before .before .before .before .before .before .before .before .before .before .before .before .before .before .before .before .before .before .before .before .before .before .before .before .before .before .before .before .before .before .before .before .before .before .before .before .before .before .before .copy) .kept .1 .0)))) ((c .before .before .before .before .before .before .before .before .before .before .before .before .before .before .before .before .before .before .before .before .before .before .before .before .before .before .before .before .before .before .before .before .before .before .before .before .before .before .before .before .before .before .before .before .branch) .kept .1 .1 .1 .1 .1 .1 .0) (((c .before .before .before .before .before .before .before .before .before .before .before .before .before .before .before .before .before .before .before .branch2) .kept .1 .1 .1 .1 .1 .1 .0 ∙ ((c .before .before .before .before .before .before .before .before .before .before .before .before .before .before .before .before .before .before .before .before .before .before .before .before .before .before .before .before .before .before .exchange) .kept .0 ∙ (c .before .before .before .before .before .before .before .before .before .before .before .before .before .before .before .before .before .before .before .before .before .before .before .before .before .before .before .before .before .before .before .before .before .before .before .before .before .before .before .before .before .before .before .before .branch) .kept .1 .1 .1 .1 .1 .1 .0))) ((c .before .before .before .before .before .before .before .before .before .before .before .before .before .before .before .before .before .before .before .before .before .before .before .before .before .before .before .before .before .before .exchange) .ensures .1) refl) ∙ ap (λ (i : ℕ). sameWords (left ((c .before .before .before .before .before .before .before .before .before .before .before .before .before .before .before .before .before .before .before .before .before .before .before .before .before .before .before .before .before .before .before .before .before .before .before .before .before .before .before .before .before .before .before .before .branch) .result .regs) i ((c .before .before .before .before .before .before .before .before .before .before .before .before .before .before .before .before .before .before .before .before .before .before .before .before .before .before .before .before .before .before .before .before .before .before .before .before .before .before .before .before .before .before .before .before .before .before .before .before .before .before .before .before .before .before .before .before .before .look) .result)) (left ((c .before .before .before .before .before .before .before .before .before .before .before .before .before .before .before .before .before .before .before .branch2) .result .regs) i ((c .before .before .before .before .before .before .before .before .before .before .before .before .before .before .before .before .before .before .before .before .before .before .before .before .before .before .before .before .before .before .before .before .before .before .before .before .before .before .before .before .before .before .before .before .before .before .before .before .before .before .before .before .before .before .before .before .before .look) .result)) && sameWords ((c .before .before .before .before .before .before .before .before .before .before .before .before .before .before .before .before .before .before .before .before .before .before .before .before .before .before .before .before .before .before .before .before .before .before .before .before .before .before .before .before .before .before .before .before .branch) .last .1 .1 .1 .1 .1 .1 .0) ((c .before .before .before .before .before .before .before .before .before .before .before .before .before .before .before .before .before .before .before .branch2) .last .1 .1 .1 .1 .1 .1 .0)) ((c .before .before .before .before .before .before .before .before .before .before .before .before .before .before .before .before .before .before .before .before .before .before .before .before .before .before .before .before .before .before .before .before .before .before .before .before .before .before .before .before .before .before .before .before .before .before .before .before .before .before .before .before .before .before .before .before .before .before .before .coin-at) .ensures))) in done (g .k) (g .m) (g .limit) (g .nest) (g .from .node) (g .from .nodes) (g .from .used) (g .from .regs) (now (g .mem)) (now (g .table)) ((c .before .before .before .before .before .before .before .before .before .before .before .before .before .before .before .before .before .before .before .before .before .before .before .before .before .before .before .before .before .before .before .before .before .before .before .before .before .before .before .before .before .before .before .before .before .before .before .before .before .before .before .before .before .before .before .before .before .before .before .before .before .before .before .before .before .if1) .left) (sym ((c .before .before .before .before .before .before .before .before .before .before .before .before .before .before .before .before .before .before .before .before .before .before .before .before .before .before .before .before .before .before .before .before .before .before .before .before .before .before .before .before .before .before .before .before .before .before .before .before .before .before .before .before .before .before .before .before .before .before .before .before .before .before .before .before .opening) .ensures) ∙ (c .before .before .before .before .before .before .before .before .before .before .before .before .before .before .before .before .before .before .before .before .before .before .before .before .before .before .before .before .before .before .before .before .before .before .before .before .before .before .before .before .before .before .before .before .before .before .before .before .before .before .before .before .before .before .before .before .before .before .before .before .before .before .before .if2) .left) ((c .before .before .before .before .before .before .before .before .before .before .before .before .before .before .before .before .before .before .before .before .before .before .before .before .before .before .before .before .before .before .before .before .before .before .before .before .before .before .before .before .before .before .before .before .branch) .result) ((c .before .before .before .before .before .before .before .before .before .before .before .before .before .before .before .before .before .before .before .before .before .before .before .before .before .before .before .before .before .before .before .before .before .before .before .before .before .before .before .before .before .before .before .before .branch) .last .1 .1 .1 .1 .1 .1 .1 .1 .0) ((c .before .before .before .before .before .before .before .before .before .before .before .before .before .before .before .before .before .before .before .before .before .before .before .before .before .before .before .before .before .before .before .before .before .before .before .before .before .before .before .before .before .before .before .before .branch) .last .1 .1 .1 .1 .1 .1 .0) lf (sym ((c .before .before .before .before .before .before .before .before .before .before .before .before .before .before .before .before .before .before .before .before .before .before .before .before .before .before .before .before .before .before .before .before .before .before .closing) .ensures ∙ ap (λ (i : ℕ). closingOf (g .k) (g .m) (g .limit) i ((c .before .before .before .before .before .before .before .before .before .before .before .before .before .before .before .before .before .before .before .before .before .before .before .before .before .before .before .before .before .before .before .before .before .before .before .before .before .before .before .before .before .before .before .before .branch) .result .used) ((c .before .before .before .before .before .before .before .before .before .before .before .before .before .before .before .before .before .before .before .before .before .before .before .before .before .before .before .before .before .before .before .before .before .before .before .before .before .before .before .before .before .before .before .before .branch) .result .regs) ((c .before .before .before .before .before .before .before .before .before .before .before .before .before .before .before .before .before .before .before .before .before .before .before .before .before .before .before .before .before .before .before .before .before .before .before .before .before .before .before .before .before .before .before .before .branch) .last .1 .1 .1 .1 .1 .1 .0)) ((c .before .before .before .before .before .before .before .before .before .before .before .before .before .before .before .before .before .before .before .before .before .before .before .before .before .before .before .before .before .before .before .before .before .before .before .before .before .before .before .before .before .before .before .before .before .before .before .before .before .before .before .before .before .before .before .before .before .before .before .coin-at) .ensures)) ∙ (c .before .before .before .before .before .before .before .before .before .before .before .before .before .before .before .before .before .before .before .before .before .before .before .before .before .before .before .before .before .before .before .before .before .if4) .left) ((c .before .before .before .before .before .before .before .before .before .before .before .before .before .before .before .before .before .before .before .before .before .before .before .before .before .before .before .before .before .before .exchange) .last .0) bk ((c .before .before .before .before .before .before .before .before .before .before .before .before .before .before .before .before .before .before .before .branch2) .result) ((c .before .before .before .before .before .before .before .before .before .before .before .before .before .before .before .before .before .before .before .branch2) .last .1 .1 .1 .1 .1 .1 .1 .1 .0) ((c .before .before .before .before .before .before .before .before .before .before .before .before .before .before .before .before .before .before .before .branch2) .last .1 .1 .1 .1 .1 .1 .0) rt ((c .before .before .before .before .before .before .before .before .before .before .before .before .before .before .before .before .before .before .before .before .before .before .before .before .before .before .before .before .before .before .before .before .before .before .before .before .before .before .before .before .before .before .before .before .before .before .before .before .before .before .before .before .before .before .before .before .before .look) .result) ((c .before .before .before .before .before .before .before .before .before .before .before .before .before .before .before .before .before .before .before .before .before .before .before .before .before .before .before .before .before .before .before .before .before .before .before .before .before .before .before .before .before .before .before .before .before .before .before .before .before .before .before .before .before .before .before .before .before .look) .ensures ∙ ap (λ (i : ℕ). getD (g .from .regs) i 0) ((c .before .before .before .before .before .before .before .before .before .before .before .before .before .before .before .before .before .before .before .before .before .before .before .before .before .before .before .before .before .before .before .before .before .before .before .before .before .before .before .before .before .before .before .before .before .before .before .before .before .before .before .before .before .before .before .before .before .before .before .coin-at) .ensures)) ((c .before .before .before .before .before .before .before .before .agree) .result) td _ _ (sym ((c .before .before .before .before .before .before .meeting) .ensures ∙ ap (λ (i : ℕ). meetingOf (g .k) (g .m) (g .limit) i ((c .before .before .before .before .before .before .before .before .before .before .before .before .before .before .before .before .before .before .before .branch2) .result .nodes) ((c .before .before .before .before .before .before .before .before .before .before .before .before .before .before .before .before .before .before .before .branch2) .result .used) ((c .before .before .before .before .before .before .before .before .before .before .before .before .before .before .before .before .before .before .before .branch2) .result .regs) ((c .before .before .before .before .before .before .before .before .before .before .before .before .before .before .before .before .before .before .before .branch2) .last .1 .1 .1 .1 .1 .1 .0) ((c .before .before .before .before .before .before .before .before .agree) .result)) ((c .before .before .before .before .before .before .before .before .before .before .before .before .before .before .before .before .before .before .before .before .before .before .before .before .before .before .before .before .before .before .before .before .before .before .before .before .before .before .before .before .before .before .before .before .before .before .before .before .before .before .before .before .before .before .before .before .before .before .before .coin-at) .ensures)) ∙ (c .before .before .before .before .before .if6) .left) ((c .before .before .join) .ensures .0 ∙ ap (λ (x : List ℕ). walkedAt x ((c .before .before .before .before .before .before .before .before .before .before .before .before .before .before .before .before .before .before .before .branch2) .result .used + 1) (2 + ((c .before .before .before .before .before .before .before .before .before .before .before .before .before .before .before .before .before .before .before .before .before .before .before .before .before .before .before .before .before .before .before .before .before .before .before .before .before .before .before .before .before .before .before .before .branch) .result .cycles + ((c .before .before .before .before .before .before .before .before .before .before .before .before .before .before .before .before .before .before .before .branch2) .result .cycles - (c .before .before .before .before .before .before .before .before .before .before .before .before .before .before .before .before .before .before .before .before .before .before .before .before .before .before .before .before .before .before .before .before .before .before .before .before .before .before .before .before .before .before .before .before .branch) .result .cycles))) ((c .before .before .before .before .before .before .before .before .before .before .before .before .before .before .before .before .before .before .before .branch2) .result .nodes + 1) ((c .before .before .before .before .before .before .before .before .before .before .before .before .before .before .before .before .before .before .before .branch2) .result .nodes + 1)) ((c .before .before .before .before .leave) .ensures ∙ ap (λ (i : ℕ). left ((c .before .before .before .before .before .before .before .before .before .before .before .before .before .before .before .before .before .before .before .before .before .before .before .before .before .before .before .before .before .before .before .before .before .before .before .before .before .before .before .before .before .before .before .before .branch) .result .regs) i ((c .before .before .before .before .before .before .before .before .before .before .before .before .before .before .before .before .before .before .before .before .before .before .before .before .before .before .before .before .before .before .before .before .before .before .before .before .before .before .before .before .before .before .before .before .before .before .before .before .before .before .before .before .before .before .before .before .before .look) .result)) ((c .before .before .before .before .before .before .before .before .before .before .before .before .before .before .before .before .before .before .before .before .before .before .before .before .before .before .before .before .before .before .before .before .before .before .before .before .before .before .before .before .before .before .before .before .before .before .before .before .before .before .before .before .before .before .before .before .before .before .before .coin-at) .ensures))) ((c .before .before .join) .ensures .1)
+is-open : (t : ℕ) (c : fork-lts.Else2 (fork-said t) (fork-at t) fork.Post) → let start′ = c .before .before .before .before .before .before in openingOf (start′ .args .limit) (start′ .args .from .nodes) (start′ .args .from .used) ≡ 0
+is-open t c =
+    let opening′ = c .before in
+    sym (opening′ .opening .ensures) ∙ c .if2 .left
+
+said₀ : (t : ℕ) (c : fork-lts.After-branch (fork-said t) (fork-at t) fork.Post) → let if1′ = c .before .before .before .before .before .before .before .before .before .before .before .before .before .before .before .before .before .before .before .before .before in let start′ = if1′ .before .before .before .before in First (start′ .args .k) (start′ .args .m) (start′ .args .limit) (start′ .args .nest) (start′ .args .from .node) (start′ .args .from .nodes) (start′ .args .from .used) (start′ .args .from .regs) (now (start′ .args .mem)) (now (start′ .args .table)) (if1′ .if1 .left) (c .branch .result) (c .branch .last .1 .1 .1 .1 .1 .1 .1 .1 .0) (c .branch .last .1 .1 .1 .1 .1 .1 .0)
+said₀ t c =
+    let enter′ = c .before .before .before .before in
+    let coin-at′ = enter′ .before .before .before .before .before .before .before .before .before .before .before in
+    let start′ = coin-at′ .before .before .before .before .before .before .before .before .before .before in
+    from-begin (start′ .args .k) (start′ .args .m) (start′ .args .limit) (start′ .args .nest - 1) true (now (start′ .args .mem)) (now (start′ .args .table)) (enter′ .enter .result) (entered (start′ .args .from .regs) (coinIn (start′ .args .from .regs) (now (start′ .args .mem))) 0) (start′ .args .from .used + 1) (start′ .args .from .nodes + 2) (start′ .args .from .nodes + 1) (c .branch .result) (c .branch .last .1 .1 .1 .1 .1 .1 .1 .1 .0) (c .branch .last .1 .1 .1 .1 .1 .1 .0) (enter′ .enter .ensures ∙ ap (λ (i : ℕ). walkedAt (entered (start′ .args .from .regs) i 0) (start′ .args .from .used + 1) 0 (start′ .args .from .nodes + 2) (start′ .args .from .nodes + 1)) (coin-at′ .coin-at .ensures)) (c .branch .ensures)
+
+came-0 : (t : ℕ) (c : fork-lts.Else3 (fork-said t) (fork-at t) fork.Post) → let branch′ = c .before .before .before .before .before .before .before .before in let if2′ = branch′ .before .before .before .before .before .before .before .before .before .before .before .before .before .before .before .before .before .before .before in let if1′ = if2′ .before .before in let start′ = if1′ .before .before .before .before in Came₀ (start′ .args .k) (start′ .args .m) (start′ .args .limit) (start′ .args .nest) (start′ .args .from .node) (start′ .args .from .nodes) (start′ .args .from .used) (start′ .args .from .regs) (now (start′ .args .mem)) (now (start′ .args .table)) (if1′ .if1 .left) (is-open t if2′) (branch′ .branch .result) (branch′ .branch .last .1 .1 .1 .1 .1 .1 .1 .1 .0) (branch′ .branch .last .1 .1 .1 .1 .1 .1 .0)
+came-0 t c =
+    let branch′ = c .before .before .before .before .before .before .before .before in
+    let if2′ = branch′ .before .before .before .before .before .before .before .before .before .before .before .before .before .before .before .before .before .before .before in
+    let if1′ = if2′ .before .before in
+    let start′ = if1′ .before .before .before .before in
+    came₀ (start′ .args .k) (start′ .args .m) (start′ .args .limit) (start′ .args .nest) (start′ .args .from .node) (start′ .args .from .nodes) (start′ .args .from .used) (start′ .args .from .regs) (now (start′ .args .mem)) (now (start′ .args .table)) (if1′ .if1 .left) (is-open t if2′) (branch′ .branch .result) (branch′ .branch .last .1 .1 .1 .1 .1 .1 .1 .1 .0) (branch′ .branch .last .1 .1 .1 .1 .1 .1 .0) (said₀ t branch′) (c .if3 .left)
+
+shut-is : (t : ℕ) (c : fork-lts.After-closing (fork-said t) (fork-at t) fork.Post) → let branch′ = c .before .before .before .before .before .before .before .before .before .before in let start′ = branch′ .before .before .before .before .before .before .before .before .before .before .before .before .before .before .before .before .before .before .before .before .before .before .before .before .before in c .closing .result ≡ (closingOf (start′ .args .k) (start′ .args .m) (start′ .args .limit) (coinIn (start′ .args .from .regs) (now (start′ .args .mem))) (branch′ .branch .result .used) (branch′ .branch .result .regs) (branch′ .branch .last .1 .1 .1 .1 .1 .1 .0))
+shut-is t c =
+    let branch′ = c .before .before .before .before .before .before .before .before .before .before in
+    let coin-at′ = branch′ .before .before .before .before .before .before .before .before .before .before .before .before .before .before .before in
+    let start′ = coin-at′ .before .before .before .before .before .before .before .before .before .before in
+    c .closing .ensures ∙ ap (λ (i : ℕ). closingOf (start′ .args .k) (start′ .args .m) (start′ .args .limit) i (branch′ .branch .result .used) (branch′ .branch .result .regs) (branch′ .branch .last .1 .1 .1 .1 .1 .1 .0)) (coin-at′ .coin-at .ensures)
+
+closed : (t : ℕ) (c : fork-lts.Else4 (fork-said t) (fork-at t) fork.Post) → let branch′ = c .before .before .before .before .before .before .before .before .before .before .before in let start′ = branch′ .before .before .before .before .before .before .before .before .before .before .before .before .before .before .before .before .before .before .before .before .before .before .before .before .before in (closingOf (start′ .args .k) (start′ .args .m) (start′ .args .limit) (coinIn (start′ .args .from .regs) (now (start′ .args .mem))) (branch′ .branch .result .used) (branch′ .branch .result .regs) (branch′ .branch .last .1 .1 .1 .1 .1 .1 .0)) ≡ 0
+closed t c =
+    let closing′ = c .before in
+    sym (shut-is t closing′) ∙ c .if4 .left
+
+back : (t : ℕ) (c : fork-lts.After-exchange (fork-said t) (fork-at t) fork.Post) → let start′ = c .before .before .before .before .before .before .before .before .before .before .before .before .before .before .before .before .before .before .before .before .before .before .before .before .before .before .before .before .before .before .before .before .before .before .before .before .before .before .before in (c .exchange .last .0) ≡ (now (start′ .args .mem))
+back t c =
+    let branch′ = c .before .before .before .before .before .before .before .before .before .before .before .before .before .before in
+    let copy′ = branch′ .before .before .before .before .before .before .before .before .before .before in
+    let if1′ = copy′ .before .before .before .before .before .before .before .before .before .before .before in
+    let start′ = if1′ .before .before .before .before in
+    put-back (now (start′ .args .mem)) (branch′ .branch .last .1 .1 .1 .1 .1 .1 .0) (copy′ .copy .last .1 .0) (branch′ .branch .last .1 .1 .1 .1 .1 .1 .1 .0) (c .exchange .last .0) (omega (arith, (room t if1′), copy′ .copy .kept .1 .0)) (copy′ .copy .ensures) (branch′ .branch .kept .1 .1 .1 .1 .1 .1 .0) (c .exchange .ensures .0)
+
+said₁ : (t : ℕ) (c : fork-lts.After-branch2 (fork-said t) (fork-at t) fork.Post) → let exchange′ = c .before .before .before .before .before .before .before .before .before .before .before in let if3′ = exchange′ .before .before .before .before .before .before in let branch′ = if3′ .before .before .before .before .before .before .before .before in let if2′ = branch′ .before .before .before .before .before .before .before .before .before .before .before .before .before .before .before .before .before .before .before in let if1′ = if2′ .before .before in let start′ = if1′ .before .before .before .before in Then (start′ .args .k) (start′ .args .m) (start′ .args .limit) (start′ .args .nest) (start′ .args .from .node) (start′ .args .from .nodes) (start′ .args .from .used) (start′ .args .from .regs) (now (start′ .args .mem)) (now (start′ .args .table)) (if1′ .if1 .left) (is-open t if2′) (branch′ .branch .result) (branch′ .branch .last .1 .1 .1 .1 .1 .1 .1 .1 .0) (branch′ .branch .last .1 .1 .1 .1 .1 .1 .0) (came-0 t if3′) (exchange′ .exchange .last .0) (c .branch2 .result) (c .branch2 .last .1 .1 .1 .1 .1 .1 .1 .1 .0) (c .branch2 .last .1 .1 .1 .1 .1 .1 .0)
+said₁ t c =
+    let enter2′ = c .before .before .before .before in
+    let exchange′ = enter2′ .before .before .before .before .before .before .before in
+    let branch′ = exchange′ .before .before .before .before .before .before .before .before .before .before .before .before .before .before in
+    let coin-at′ = branch′ .before .before .before .before .before .before .before .before .before .before .before .before .before .before .before in
+    let start′ = coin-at′ .before .before .before .before .before .before .before .before .before .before in
+    from-begin (start′ .args .k) (start′ .args .m) (start′ .args .limit) (start′ .args .nest - 1) true (exchange′ .exchange .last .0) (branch′ .branch .last .1 .1 .1 .1 .1 .1 .1 .1 .0) (enter2′ .enter2 .result) (entered (start′ .args .from .regs) (coinIn (start′ .args .from .regs) (now (start′ .args .mem))) 1) (branch′ .branch .result .used + 1) (branch′ .branch .result .nodes) (start′ .args .from .nodes + 2) (c .branch2 .result) (c .branch2 .last .1 .1 .1 .1 .1 .1 .1 .1 .0) (c .branch2 .last .1 .1 .1 .1 .1 .1 .0) (enter2′ .enter2 .ensures ∙ ap (λ (i : ℕ). walkedAt (entered (start′ .args .from .regs) i 1) (branch′ .branch .result .used + 1) 0 (branch′ .branch .result .nodes) (start′ .args .from .nodes + 2)) (coin-at′ .coin-at .ensures)) (c .branch2 .ensures)
+
+came-1 : (t : ℕ) (c : fork-lts.Else5 (fork-said t) (fork-at t) fork.Post) → let branch2′ = c .before .before .before .before .before .before .before .before in let exchange′ = branch2′ .before .before .before .before .before .before .before .before .before .before .before in let if4′ = exchange′ .before .before .before in let if3′ = if4′ .before .before .before in let branch′ = if3′ .before .before .before .before .before .before .before .before in let if2′ = branch′ .before .before .before .before .before .before .before .before .before .before .before .before .before .before .before .before .before .before .before in let if1′ = if2′ .before .before in let start′ = if1′ .before .before .before .before in Came₁ (start′ .args .k) (start′ .args .m) (start′ .args .limit) (start′ .args .nest) (start′ .args .from .node) (start′ .args .from .nodes) (start′ .args .from .used) (start′ .args .from .regs) (now (start′ .args .mem)) (now (start′ .args .table)) (if1′ .if1 .left) (is-open t if2′) (branch′ .branch .result) (branch′ .branch .last .1 .1 .1 .1 .1 .1 .1 .1 .0) (branch′ .branch .last .1 .1 .1 .1 .1 .1 .0) (came-0 t if3′) (closed t if4′) (exchange′ .exchange .last .0) (back t exchange′) (branch2′ .branch2 .result) (branch2′ .branch2 .last .1 .1 .1 .1 .1 .1 .1 .1 .0) (branch2′ .branch2 .last .1 .1 .1 .1 .1 .1 .0)
+came-1 t c =
+    let branch2′ = c .before .before .before .before .before .before .before .before in
+    let exchange′ = branch2′ .before .before .before .before .before .before .before .before .before .before .before in
+    let if4′ = exchange′ .before .before .before in
+    let if3′ = if4′ .before .before .before in
+    let branch′ = if3′ .before .before .before .before .before .before .before .before in
+    let if2′ = branch′ .before .before .before .before .before .before .before .before .before .before .before .before .before .before .before .before .before .before .before in
+    let if1′ = if2′ .before .before in
+    let start′ = if1′ .before .before .before .before in
+    came₁ (start′ .args .k) (start′ .args .m) (start′ .args .limit) (start′ .args .nest) (start′ .args .from .node) (start′ .args .from .nodes) (start′ .args .from .used) (start′ .args .from .regs) (now (start′ .args .mem)) (now (start′ .args .table)) (if1′ .if1 .left) (is-open t if2′) (branch′ .branch .result) (branch′ .branch .last .1 .1 .1 .1 .1 .1 .1 .1 .0) (branch′ .branch .last .1 .1 .1 .1 .1 .1 .0) (came-0 t if3′) (closed t if4′) (exchange′ .exchange .last .0) (back t exchange′) (branch2′ .branch2 .result) (branch2′ .branch2 .last .1 .1 .1 .1 .1 .1 .1 .1 .0) (branch2′ .branch2 .last .1 .1 .1 .1 .1 .1 .0) (said₁ t branch2′) (c .if5 .left)
+
+told : (t : ℕ) (c : fork-lts.After-agree (fork-said t) (fork-at t) fork.Post) → let branch2′ = c .before .before .before .before .before .before .before .before .before .before .before in let branch′ = branch2′ .before .before .before .before .before .before .before .before .before .before .before .before .before .before .before .before .before .before .before .before .before .before .before .before .before in let look′ = branch′ .before .before .before .before .before .before .before .before .before .before .before .before .before in let start′ = look′ .before .before .before .before .before .before .before .before .before .before .before .before in c .agree .result ≡ (sameWords (left (branch′ .branch .result .regs) (coinIn (start′ .args .from .regs) (now (start′ .args .mem))) (look′ .look .result)) (left (branch2′ .branch2 .result .regs) (coinIn (start′ .args .from .regs) (now (start′ .args .mem))) (look′ .look .result)) && sameWords (branch′ .branch .last .1 .1 .1 .1 .1 .1 .0) (branch2′ .branch2 .last .1 .1 .1 .1 .1 .1 .0))
+told t c =
+    let branch2′ = c .before .before .before .before .before .before .before .before .before .before .before in
+    let exchange′ = branch2′ .before .before .before .before .before .before .before .before .before .before .before in
+    let scratch2′ = exchange′ .before .before .before .before .before .before .before .before .before .before .before in
+    let branch′ = scratch2′ .before .before .before in
+    let copy′ = branch′ .before .before .before .before .before .before .before .before .before .before in
+    let look′ = copy′ .before .before .before in
+    let coin-at′ = look′ .before .before in
+    let if1′ = coin-at′ .before .before .before .before .before .before in
+    let start′ = if1′ .before .before .before .before in
+    c .agree .ensures ∙ ap₂ (λ (i : ℕ) (x : Bool). sameWords (left (branch′ .branch .result .regs) i (look′ .look .result)) (left (branch2′ .branch2 .result .regs) i (look′ .look .result)) && x) (coin-at′ .coin-at .ensures) (told-same (length (now (start′ .args .mem))) (branch′ .branch .last .1 .1 .1 .1 .1 .1 .0) (exchange′ .exchange .last .1 .0) (branch2′ .branch2 .last .1 .1 .1 .1 .1 .1 .1 .0) (branch2′ .branch2 .last .1 .1 .1 .1 .1 .1 .0) _ (omega (arith, (room t if1′), (exchange′ .exchange .kept .1 .0 ∙ (scratch2′ .scratch2 .given .1 ∙ copy′ .copy .kept .1 .0)))) (branch′ .branch .kept .1 .1 .1 .1 .1 .1 .0) ((branch2′ .branch2 .kept .1 .1 .1 .1 .1 .1 .0 ∙ (exchange′ .exchange .kept .0 ∙ branch′ .branch .kept .1 .1 .1 .1 .1 .1 .0))) (exchange′ .exchange .ensures .1) refl)
+
+met-is : (t : ℕ) (c : fork-lts.After-meeting (fork-said t) (fork-at t) fork.Post) → let agree′ = c .before .before in let branch2′ = agree′ .before .before .before .before .before .before .before .before .before .before .before in let start′ = branch2′ .before .before .before .before .before .before .before .before .before .before .before .before .before .before .before .before .before .before .before .before .before .before .before .before .before .before .before .before .before .before .before .before .before .before .before .before .before .before .before .before .before .before .before .before .before .before .before .before .before .before in c .meeting .result ≡ (meetingOf (start′ .args .k) (start′ .args .m) (start′ .args .limit) (coinIn (start′ .args .from .regs) (now (start′ .args .mem))) (branch2′ .branch2 .result .nodes) (branch2′ .branch2 .result .used) (branch2′ .branch2 .result .regs) (branch2′ .branch2 .last .1 .1 .1 .1 .1 .1 .0) (agree′ .agree .result))
+met-is t c =
+    let agree′ = c .before .before in
+    let branch2′ = agree′ .before .before .before .before .before .before .before .before .before .before .before in
+    let coin-at′ = branch2′ .before .before .before .before .before .before .before .before .before .before .before .before .before .before .before .before .before .before .before .before .before .before .before .before .before .before .before .before .before .before .before .before .before .before .before .before .before .before .before .before in
+    let start′ = coin-at′ .before .before .before .before .before .before .before .before .before .before in
+    c .meeting .ensures ∙ ap (λ (i : ℕ). meetingOf (start′ .args .k) (start′ .args .m) (start′ .args .limit) i (branch2′ .branch2 .result .nodes) (branch2′ .branch2 .result .used) (branch2′ .branch2 .result .regs) (branch2′ .branch2 .last .1 .1 .1 .1 .1 .1 .0) (agree′ .agree .result)) (coin-at′ .coin-at .ensures)
+
+met : (t : ℕ) (c : fork-lts.Else6 (fork-said t) (fork-at t) fork.Post) → let agree′ = c .before .before .before in let branch2′ = agree′ .before .before .before .before .before .before .before .before .before .before .before in let start′ = branch2′ .before .before .before .before .before .before .before .before .before .before .before .before .before .before .before .before .before .before .before .before .before .before .before .before .before .before .before .before .before .before .before .before .before .before .before .before .before .before .before .before .before .before .before .before .before .before .before .before .before .before in (meetingOf (start′ .args .k) (start′ .args .m) (start′ .args .limit) (coinIn (start′ .args .from .regs) (now (start′ .args .mem))) (branch2′ .branch2 .result .nodes) (branch2′ .branch2 .result .used) (branch2′ .branch2 .result .regs) (branch2′ .branch2 .last .1 .1 .1 .1 .1 .1 .0) (agree′ .agree .result)) ≡ 0
+met t c =
+    let meeting′ = c .before in
+    sym (met-is t meeting′) ∙ c .if6 .left
+
+branch-advance-requires : (t : ℕ) → branch-lts.Need-advance-requires (branch-said t) (branch-at t) branch.Post branch-Inv-loop branch-μ-loop
+branch-advance-requires t c κs =
+    let loop′ = c .before .before in
+    let start′ = loop′ .before .before .before .before .before .before in
+    sized _ _ _ _ (loop′ .loop .inv .0 .even) (start′ .pre .1 .0)
+
+branch-same-length : (t : ℕ) → branch-lts.Need-same-length (branch-said t) (branch-at t) branch.Post branch-Inv-loop branch-μ-loop
+branch-same-length t c =
+    let advance′ = c .before .before .before .before .before .before in
+    let loop′ = advance′ .before .before .before in
+    advance′ .advance .kept .1 .1 .1 .0 ∙ loop′ .loop .inv .0 .even
+
+branch-returns : (t : ℕ) → branch-lts.Need-returns (branch-said t) (branch-at t) branch.Post branch-Inv-loop branch-μ-loop
+branch-returns t c =
+    let seen′ = c .before .before in
+    let advance′ = seen′ .before .before .before .before in
+    let loop′ = advance′ .before .before .before in
+    let walked-at′ = loop′ .before in
+    from-begin _ _ _ _ _ _ _ _ _ _ _ _ _ _ _ (walked-at′ .walked-at .ensures) (halted _ _ _ _ _ _ _ _ _ _ _ _ _ _ (loop′ .loop .inv .0) (advance′ .advance .result .seen) (advance′ .advance .result .regs) (advance′ .advance .last .1 .1 .1 .0) (advance′ .advance .ensures) _ _ _ _ (seen′ .seen .given .1) (c .refuse .ensures))
+
+branch-same-length-4 : (t : ℕ) → branch-lts.Need-same-length-4 (branch-said t) (branch-at t) branch.Post branch-Inv-loop branch-μ-loop
+branch-same-length-4 t c =
+    let advance′ = c .before .before .before .before .before .before in
+    let loop′ = advance′ .before .before .before in
+    advance′ .advance .kept .1 .1 .1 .0 ∙ loop′ .loop .inv .0 .even
+
+branch-returns-2 : (t : ℕ) → branch-lts.Need-returns-2 (branch-said t) (branch-at t) branch.Post branch-Inv-loop branch-μ-loop
+branch-returns-2 t c =
+    let if1′ = c .before in
+    let enum-told′ = if1′ .before in
+    let advance′ = enum-told′ .before .before .before .before in
+    let loop′ = advance′ .before .before .before in
+    let walked-at′ = loop′ .before in
+    from-begin _ _ _ _ _ _ _ _ _ _ _ _ _ _ _ (walked-at′ .walked-at .ensures) (finished-in _ _ _ _ _ _ _ _ _ _ _ _ _ _ (loop′ .loop .inv .0) (advance′ .advance .result .seen) (advance′ .advance .result .regs) (advance′ .advance .last .1 .1 .1 .0) (advance′ .advance .ensures) _ _ _ (enum-told′ .enum-told .given .1) (if1′ .if1 .taken) (c .refuse2 .ensures))
+
+branch-same-length-7 : (t : ℕ) → branch-lts.Need-same-length-7 (branch-said t) (branch-at t) branch.Post branch-Inv-loop branch-μ-loop
+branch-same-length-7 t c =
+    let advance′ = c .before .before .before .before .before in
+    let loop′ = advance′ .before .before .before in
+    advance′ .advance .kept .1 .1 .1 .0 ∙ loop′ .loop .inv .0 .even
+
+branch-returns-3 : (t : ℕ) → branch-lts.Need-returns-3 (branch-said t) (branch-at t) branch.Post branch-Inv-loop branch-μ-loop
+branch-returns-3 t c =
+    let enum-told′ = c .before in
+    let advance′ = enum-told′ .before .before .before .before in
+    let loop′ = advance′ .before .before .before in
+    let walked-at′ = loop′ .before in
+    from-begin _ _ _ _ _ _ _ _ _ _ _ _ _ _ _ (walked-at′ .walked-at .ensures) (finished _ _ _ _ _ _ _ _ _ _ _ _ _ _ (loop′ .loop .inv .0) (advance′ .advance .result .seen) (advance′ .advance .result .regs) (advance′ .advance .last .1 .1 .1 .0) (advance′ .advance .ensures) (enum-told′ .enum-told .given .1) (c .if1 .left))
+
+branch-same-length-10 : (t : ℕ) → branch-lts.Need-same-length-10 (branch-said t) (branch-at t) branch.Post branch-Inv-loop branch-μ-loop
+branch-same-length-10 t c =
+    let advance′ = c .before .before .before .before .before .before .before in
+    let loop′ = advance′ .before .before .before in
+    advance′ .advance .kept .1 .1 .1 .0 ∙ loop′ .loop .inv .0 .even
+
+branch-returns-4 : (t : ℕ) → branch-lts.Need-returns-4 (branch-said t) (branch-at t) branch.Post branch-Inv-loop branch-μ-loop
+branch-returns-4 t c =
+    let if2′ = c .before in
+    let enum-told2′ = if2′ .before .before in
+    let advance′ = enum-told2′ .before .before .before .before in
+    let loop′ = advance′ .before .before .before in
+    let walked-at′ = loop′ .before in
+    from-begin _ _ _ _ _ _ _ _ _ _ _ _ _ _ _ (walked-at′ .walked-at .ensures) (limited _ _ _ _ _ _ _ _ _ _ _ _ _ _ (loop′ .loop .inv .0) (advance′ .advance .result .seen) (advance′ .advance .result .regs) (advance′ .advance .last .1 .1 .1 .0) (advance′ .advance .ensures) _ _ _ (enum-told2′ .enum-told2 .given .1) (if2′ .if2 .taken) (c .refuse3 .ensures))
+
+branch-add-used : (t : ℕ) → branch-lts.Need-add-used (branch-said t) (branch-at t) branch.Post branch-Inv-loop branch-μ-loop
+branch-add-used t c =
+    let if2′ = c .before .before in
+    let start′ = if2′ .before .before .before .before .before .before .before .before .before .before .before .before .before .before .before in
+    record { fits = omega (arith, if2′ .if2 .left, start′ .fits .limit) }
+
+branch-add-cycles : (t : ℕ) → branch-lts.Need-add-cycles (branch-said t) (branch-at t) branch.Post branch-Inv-loop branch-μ-loop
+branch-add-cycles t c =
+    let if2′ = c .before .before .before in
+    let loop′ = if2′ .before .before .before .before .before .before .before .before .before in
+    let start′ = loop′ .before .before .before .before .before .before in
+    record { fits = omega (arith, small _ _ _ _ _ _ _ _ _ _ _ _ _ _ (loop′ .loop .inv .0), if2′ .if2 .left, start′ .fits .limit) }
+
+branch-loop-less : (t : ℕ) → branch-lts.Need-loop-less (branch-said t) (branch-at t) branch.Post branch-Inv-loop branch-μ-loop
+branch-loop-less t c =
+    let if2′ = c .before .before .before .before in
+    omega (arith, if2′ .if2 .left, ap (λ (a : Walked). a .used) (c .walked-at2 .ensures))
+
+branch-loop-again : (t : ℕ) → branch-lts.Need-loop-again (branch-said t) (branch-at t) branch.Post branch-Inv-loop branch-μ-loop
+branch-loop-again t c =
+    let if2′ = c .before .before .before .before in
+    let enum-told2′ = if2′ .before .before in
+    let advance′ = enum-told2′ .before .before .before .before in
+    let loop′ = advance′ .before .before .before in
+    (goes-on _ _ _ _ _ _ _ _ _ _ _ _ _ _ (loop′ .loop .inv .0) (advance′ .advance .result .seen) (advance′ .advance .result .regs) (advance′ .advance .last .1 .1 .1 .0) (advance′ .advance .ensures) _ (enum-told2′ .enum-told2 .given .1) (if2′ .if2 .left) (advance′ .advance .kept .1 .1 .1 .0) (c .walked-at2 .ensures), loop′ .loop .inv .1)
+
+branch-fork-requires : (t : ℕ) → branch-lts.Need-fork-requires (branch-said t) (branch-at t) branch.Post branch-Inv-loop branch-μ-loop
+branch-fork-requires t c κs =
+    let advance′ = c .before .before .before .before .before .before .before in
+    let loop′ = advance′ .before .before .before in
+    let start′ = loop′ .before .before .before .before .before .before in
+    let e = start′ .pre .1 in (omega (arith, start′ .pre .0), (sized _ _ _ _ (advance′ .advance .kept .1 .1 .1 .0 ∙ loop′ .loop .inv .0 .even) (e .0), as-long _ _ _ _ _ refl (loop′ .loop .inv .1) (e .1)))
+
+branch-same-length-13 : (t : ℕ) → branch-lts.Need-same-length-13 (branch-said t) (branch-at t) branch.Post branch-Inv-loop branch-μ-loop
+branch-same-length-13 t c =
+    let fork′ = c .before .before .before .before .before .before .before .before in
+    let advance′ = fork′ .before .before .before .before .before .before .before .before in
+    let loop′ = advance′ .before .before .before in
+    fork′ .fork .kept .1 .1 .1 .1 .1 .0 ∙ (advance′ .advance .kept .1 .1 .1 .0 ∙ loop′ .loop .inv .0 .even)
+
+branch-same-length-14 : (t : ℕ) → branch-lts.Need-same-length-14 (branch-said t) (branch-at t) branch.Post branch-Inv-loop branch-μ-loop
+branch-same-length-14 t c =
+    let fork′ = c .before .before .before .before .before .before .before .before in
+    let loop′ = fork′ .before .before .before .before .before .before .before .before .before .before .before in
+    fork′ .fork .kept .1 .1 .1 .1 .1 .1 .0 ∙ (loop′ .loop .inv .1)
+
+branch-same-length-15 : (t : ℕ) → branch-lts.Need-same-length-15 (branch-said t) (branch-at t) branch.Post branch-Inv-loop branch-μ-loop
+branch-same-length-15 t c =
+    let fork′ = c .before .before .before .before .before .before .before .before in
+    let loop′ = fork′ .before .before .before .before .before .before .before .before .before .before .before in
+    fork′ .fork .kept .1 .1 .1 .1 .1 .1 .1 .0 ∙ (loop′ .loop .inv .0 .long)
+
+branch-returns-5 : (t : ℕ) → branch-lts.Need-returns-5 (branch-said t) (branch-at t) branch.Post branch-Inv-loop branch-μ-loop
+branch-returns-5 t c =
+    let fork′ = c .before .before .before .before .before .before .before .before in
+    let enum-told3′ = fork′ .before .before .before .before in
+    let advance′ = enum-told3′ .before .before .before .before in
+    let loop′ = advance′ .before .before .before in
+    let walked-at′ = loop′ .before in
+    from-begin _ _ _ _ _ _ _ _ _ _ _ _ _ _ _ (walked-at′ .walked-at .ensures) (fork-out _ _ _ _ _ _ _ _ _ _ _ _ _ _ (loop′ .loop .inv .0) (advance′ .advance .result .seen) (advance′ .advance .result .regs) (advance′ .advance .last .1 .1 .1 .0) (advance′ .advance .ensures) (enum-told3′ .enum-told3 .given .1) _ _ _ (fork′ .fork .ensures) (c .if3 .taken))
+
+branch-add-cycles-2 : (t : ℕ) → branch-lts.Need-add-cycles-2 (branch-said t) (branch-at t) branch.Post branch-Inv-loop branch-μ-loop
+branch-add-cycles-2 t c =
+    let if3′ = c .before .before .before in
+    let fork′ = if3′ .before .before .before .before .before .before .before .before in
+    let enum-told3′ = fork′ .before .before .before .before in
+    let advance′ = enum-told3′ .before .before .before .before in
+    let loop′ = advance′ .before .before .before in
+    record { fits = omega (arith, fork-fits _ _ _ _ _ _ _ _ _ _ _ _ _ _ (loop′ .loop .inv .0) (advance′ .advance .result .seen) (advance′ .advance .result .regs) (advance′ .advance .last .1 .1 .1 .0) (advance′ .advance .ensures) (enum-told3′ .enum-told3 .given .1) _ _ _ (taken _ _ _ _ _ _ _ _ _ _ _ _ _ _ (loop′ .loop .inv .0) (advance′ .advance .result .seen) (advance′ .advance .result .regs) (advance′ .advance .last .1 .1 .1 .0) (advance′ .advance .ensures) (enum-told3′ .enum-told3 .given .1) _ _ _ (fork′ .fork .ensures) (if3′ .if3 .left)), c .struct-known6 .given) }
+
+branch-loop-less-2 : (t : ℕ) → branch-lts.Need-loop-less-2 (branch-said t) (branch-at t) branch.Post branch-Inv-loop branch-μ-loop
+branch-loop-less-2 t c =
+    let if3′ = c .before .before .before .before in
+    let fork′ = if3′ .before .before .before .before .before .before .before .before in
+    let enum-told3′ = fork′ .before .before .before .before in
+    let advance′ = enum-told3′ .before .before .before .before in
+    let loop′ = advance′ .before .before .before in
+    omega (arith, fork-falls _ _ _ _ _ _ _ _ _ _ _ _ _ _ (loop′ .loop .inv .0) (advance′ .advance .result .seen) (advance′ .advance .result .regs) (advance′ .advance .last .1 .1 .1 .0) (advance′ .advance .ensures) (enum-told3′ .enum-told3 .given .1) _ _ _ (taken _ _ _ _ _ _ _ _ _ _ _ _ _ _ (loop′ .loop .inv .0) (advance′ .advance .result .seen) (advance′ .advance .result .regs) (advance′ .advance .last .1 .1 .1 .0) (advance′ .advance .ensures) (enum-told3′ .enum-told3 .given .1) _ _ _ (fork′ .fork .ensures) (if3′ .if3 .left)), ap (λ (a : Walked). a .used) (c .walked-at3 .ensures))
+
+branch-loop-again-2 : (t : ℕ) → branch-lts.Need-loop-again-2 (branch-said t) (branch-at t) branch.Post branch-Inv-loop branch-μ-loop
+branch-loop-again-2 t c =
+    let if3′ = c .before .before .before .before in
+    let fork′ = if3′ .before .before .before .before .before .before .before .before in
+    let enum-told3′ = fork′ .before .before .before .before in
+    let advance′ = enum-told3′ .before .before .before .before in
+    let loop′ = advance′ .before .before .before in
+    (forks-on _ _ _ _ _ _ _ _ _ _ _ _ _ _ (loop′ .loop .inv .0) (advance′ .advance .result .seen) (advance′ .advance .result .regs) (advance′ .advance .last .1 .1 .1 .0) (advance′ .advance .ensures) (enum-told3′ .enum-told3 .given .1) _ _ _ (taken _ _ _ _ _ _ _ _ _ _ _ _ _ _ (loop′ .loop .inv .0) (advance′ .advance .result .seen) (advance′ .advance .result .regs) (advance′ .advance .last .1 .1 .1 .0) (advance′ .advance .ensures) (enum-told3′ .enum-told3 .given .1) _ _ _ (fork′ .fork .ensures) (if3′ .if3 .left)) _ (fork′ .fork .kept .1 .1 .1 .1 .1 .1 .1 .0) (fork′ .fork .kept .1 .1 .1 .1 .1 .0 ∙ advance′ .advance .kept .1 .1 .1 .0) (c .walked-at3 .ensures), fork′ .fork .kept .1 .1 .1 .1 .1 .1 .0 ∙ loop′ .loop .inv .1)
+
+branch-same-length-16 : (t : ℕ) → branch-lts.Need-same-length-16 (branch-said t) (branch-at t) branch.Post branch-Inv-loop branch-μ-loop
+branch-same-length-16 t c =
+    let advance′ = c .before .before .before .before .before in
+    let loop′ = advance′ .before .before .before in
+    advance′ .advance .kept .1 .1 .1 .0 ∙ loop′ .loop .inv .0 .even
+
+branch-returns-6 : (t : ℕ) → branch-lts.Need-returns-6 (branch-said t) (branch-at t) branch.Post branch-Inv-loop branch-μ-loop
+branch-returns-6 t c =
+    let enum-told4′ = c .before in
+    let advance′ = enum-told4′ .before .before .before .before in
+    let loop′ = advance′ .before .before .before in
+    let walked-at′ = loop′ .before in
+    from-begin _ _ _ _ _ _ _ _ _ _ _ _ _ _ _ (walked-at′ .walked-at .ensures) (joined _ _ _ _ _ _ _ _ _ _ _ _ _ _ (loop′ .loop .inv .0) (advance′ .advance .result .seen) (advance′ .advance .result .regs) (advance′ .advance .last .1 .1 .1 .0) (advance′ .advance .ensures) (enum-told4′ .enum-told4 .given .1) (c .if4 .taken))
+
+branch-same-length-19 : (t : ℕ) → branch-lts.Need-same-length-19 (branch-said t) (branch-at t) branch.Post branch-Inv-loop branch-μ-loop
+branch-same-length-19 t c =
+    let advance′ = c .before .before .before .before .before .before in
+    let loop′ = advance′ .before .before .before in
+    advance′ .advance .kept .1 .1 .1 .0 ∙ loop′ .loop .inv .0 .even
+
+branch-returns-7 : (t : ℕ) → branch-lts.Need-returns-7 (branch-said t) (branch-at t) branch.Post branch-Inv-loop branch-μ-loop
+branch-returns-7 t c =
+    let if4′ = c .before in
+    let enum-told4′ = if4′ .before in
+    let advance′ = enum-told4′ .before .before .before .before in
+    let loop′ = advance′ .before .before .before in
+    let walked-at′ = loop′ .before in
+    from-begin _ _ _ _ _ _ _ _ _ _ _ _ _ _ _ (walked-at′ .walked-at .ensures) (joined-out _ _ _ _ _ _ _ _ _ _ _ _ _ _ (loop′ .loop .inv .0) (advance′ .advance .result .seen) (advance′ .advance .result .regs) (advance′ .advance .last .1 .1 .1 .0) (advance′ .advance .ensures) _ _ _ (enum-told4′ .enum-told4 .given .1) (if4′ .if4 .left) (c .refuse4 .ensures))
+
+fork-returns : (t : ℕ) → fork-lts.Need-returns (fork-said t) (fork-at t) fork.Post
+fork-returns t c =
+    let if1′ = c .before in
+    let start′ = if1′ .before .before .before .before in
+    none (start′ .args .k) (start′ .args .m) (start′ .args .limit) (start′ .args .nest) (start′ .args .from .node) (start′ .args .from .nodes) (start′ .args .from .used) (start′ .args .from .regs) (now (start′ .args .mem)) (now (start′ .args .table)) _ _ _ (if1′ .if1 .taken) (c .refuse .ensures)
+
+fork-returns-2 : (t : ℕ) → fork-lts.Need-returns-2 (fork-said t) (fork-at t) fork.Post
+fork-returns-2 t c =
+    let if2′ = c .before in
+    let opening′ = if2′ .before in
+    let if1′ = opening′ .before in
+    let start′ = if1′ .before .before .before .before in
+    shut (start′ .args .k) (start′ .args .m) (start′ .args .limit) (start′ .args .nest) (start′ .args .from .node) (start′ .args .from .nodes) (start′ .args .from .used) (start′ .args .from .regs) (now (start′ .args .mem)) (now (start′ .args .table)) (if1′ .if1 .left) _ _ _ _ (opening′ .opening .ensures) (if2′ .if2 .taken) (c .refuse2 .ensures)
+
+fork-sub-branch : (t : ℕ) → fork-lts.Need-sub-branch (fork-said t) (fork-at t) fork.Post
+fork-sub-branch t c =
+    let if1′ = c .before .before .before .before .before .before .before .before .before .before .before .before .before in
+    pos-of-ne-zero (if1′ .if1 .left)
+
+fork-add-enter : (t : ℕ) → fork-lts.Need-add-enter (fork-said t) (fork-at t) fork.Post
+fork-add-enter t c =
+    let if2′ = c .before .before .before .before .before .before .before .before .before .before .before .before in
+    let start′ = if2′ .before .before .before .before .before .before in
+    record { fits = omega (arith, opened (start′ .args .limit) (start′ .args .from .nodes) (start′ .args .from .used) (is-open t if2′), start′ .fits .limit) }
+
+fork-add-enter-2 : (t : ℕ) → fork-lts.Need-add-enter-2 (fork-said t) (fork-at t) fork.Post
+fork-add-enter-2 t c =
+    let if2′ = c .before .before .before .before .before .before .before .before .before .before .before .before .before in
+    let start′ = if2′ .before .before .before .before .before .before in
+    record { fits = omega (arith, opened (start′ .args .limit) (start′ .args .from .nodes) (start′ .args .from .used) (is-open t if2′), start′ .fits .limit) }
+
+fork-add-enter-3 : (t : ℕ) → fork-lts.Need-add-enter-3 (fork-said t) (fork-at t) fork.Post
+fork-add-enter-3 t c =
+    let if2′ = c .before .before .before .before .before .before .before .before .before .before .before .before .before .before in
+    let start′ = if2′ .before .before .before .before .before .before in
+    record { fits = omega (arith, opened (start′ .args .limit) (start′ .args .from .nodes) (start′ .args .from .used) (is-open t if2′), start′ .fits .limit) }
+
+fork-mul-branch : (t : ℕ) → fork-lts.Need-mul-branch (fork-said t) (fork-at t) fork.Post
+fork-mul-branch t c =
+    let start′ = c .before .before .before .before .before .before .before .before .before .before .before .before .before .before .before .before .before .before .before .before .before .before in
+    record { fits = omega (arith, start′ .good .1 .1 .1 .1 .1 .0 .1) }
+
+fork-sub-branch-2 : (t : ℕ) → fork-lts.Need-sub-branch-2 (fork-said t) (fork-at t) fork.Post
+fork-sub-branch-2 t c =
+    let copy′ = c .before .before .before .before .before .before .before in
+    let if1′ = copy′ .before .before .before .before .before .before .before .before .before .before .before in
+    omega (arith, (room t if1′), copy′ .copy .kept .1 .0)
+
+fork-part-branch-start : (t : ℕ) → fork-lts.Need-part-branch-start (fork-said t) (fork-at t) fork.Post
+fork-part-branch-start t c =
+    let copy′ = c .before .before .before .before .before .before .before in
+    let if1′ = copy′ .before .before .before .before .before .before .before .before .before .before .before in
+    omega (arith, (room t if1′), copy′ .copy .kept .1 .0)
+
+fork-branch-requires : (t : ℕ) → fork-lts.Need-branch-requires (fork-said t) (fork-at t) fork.Post
+fork-branch-requires t c κs =
+    let copy′ = c .before .before .before .before .before .before .before .before .before in
+    let if1′ = copy′ .before .before .before .before .before .before .before .before .before .before .before in
+    let start′ = if1′ .before .before .before .before in
+    (omega (arith, start′ .pre .0, pos-of-ne-zero (if1′ .if1 .left)), (start′ .pre .1 .0, deeper (start′ .args .nest) (length (now (start′ .args .mem))) (start′ .args .m) (now (start′ .args .scratch)) (copy′ .copy .last .1 .0) (if1′ .if1 .left) (roomy t if1′) (copy′ .copy .kept .1 .0) (sym (start′ .pre .1 .0 .3))))
+
+fork-same-length-2 : (t : ℕ) → fork-lts.Need-same-length-2 (fork-said t) (fork-at t) fork.Post
+fork-same-length-2 t c =
+    let scratch2′ = c .before .before .before .before .before in
+    let copy′ = scratch2′ .before .before .before .before .before .before .before .before .before .before .before .before .before in
+    (scratch2′ .scratch2 .given .1 ∙ copy′ .copy .kept .1 .0)
+
+fork-returns-3 : (t : ℕ) → fork-lts.Need-returns-3 (fork-said t) (fork-at t) fork.Post
+fork-returns-3 t c =
+    let branch′ = c .before .before .before .before .before .before .before .before in
+    let if2′ = branch′ .before .before .before .before .before .before .before .before .before .before .before .before .before .before .before .before .before .before .before in
+    let if1′ = if2′ .before .before in
+    let start′ = if1′ .before .before .before .before in
+    refused₀ (start′ .args .k) (start′ .args .m) (start′ .args .limit) (start′ .args .nest) (start′ .args .from .node) (start′ .args .from .nodes) (start′ .args .from .used) (start′ .args .from .regs) (now (start′ .args .mem)) (now (start′ .args .table)) (if1′ .if1 .left) (is-open t if2′) (branch′ .branch .result) (branch′ .branch .last .1 .1 .1 .1 .1 .1 .1 .1 .0) (branch′ .branch .last .1 .1 .1 .1 .1 .1 .0) _ (said₀ t branch′) (c .if3 .taken)
+
+fork-closing-requires : (t : ℕ) → fork-lts.Need-closing-requires (fork-said t) (fork-at t) fork.Post
+fork-closing-requires t c κs =
+    let branch′ = c .before .before .before .before .before .before .before .before .before in
+    let start′ = branch′ .before .before .before .before .before .before .before .before .before .before .before .before .before .before .before .before .before .before .before .before .before .before .before .before .before in
+    branch′ .branch .kept .1 .1 .1 .1 .1 .1 .0 ∙ start′ .pre .1 .0 .3
+
+fork-same-length-4 : (t : ℕ) → fork-lts.Need-same-length-4 (fork-said t) (fork-at t) fork.Post
+fork-same-length-4 t c =
+    let branch′ = c .before .before .before .before .before .before .before .before .before .before .before .before in
+    branch′ .branch .kept .1 .1 .1 .1 .1 .1 .0
+
+fork-same-length-5 : (t : ℕ) → fork-lts.Need-same-length-5 (fork-said t) (fork-at t) fork.Post
+fork-same-length-5 t c =
+    let scratch2′ = c .before .before .before .before .before .before .before .before .before in
+    let copy′ = scratch2′ .before .before .before .before .before .before .before .before .before .before .before .before .before in
+    (scratch2′ .scratch2 .given .1 ∙ copy′ .copy .kept .1 .0)
+
+fork-same-length-6 : (t : ℕ) → fork-lts.Need-same-length-6 (fork-said t) (fork-at t) fork.Post
+fork-same-length-6 t c =
+    let branch′ = c .before .before .before .before .before .before .before .before .before .before .before .before in
+    branch′ .branch .kept .1 .1 .1 .1 .1 .1 .1 .1 .0
+
+fork-returns-4 : (t : ℕ) → fork-lts.Need-returns-4 (fork-said t) (fork-at t) fork.Post
+fork-returns-4 t c =
+    let if4′ = c .before in
+    let closing′ = if4′ .before in
+    let if3′ = closing′ .before .before in
+    let branch′ = if3′ .before .before .before .before .before .before .before .before in
+    let if2′ = branch′ .before .before .before .before .before .before .before .before .before .before .before .before .before .before .before .before .before .before .before in
+    let if1′ = if2′ .before .before in
+    let start′ = if1′ .before .before .before .before in
+    shut₀ (start′ .args .k) (start′ .args .m) (start′ .args .limit) (start′ .args .nest) (start′ .args .from .node) (start′ .args .from .nodes) (start′ .args .from .used) (start′ .args .from .regs) (now (start′ .args .mem)) (now (start′ .args .table)) (if1′ .if1 .left) (is-open t if2′) (branch′ .branch .result) (branch′ .branch .last .1 .1 .1 .1 .1 .1 .1 .1 .0) (branch′ .branch .last .1 .1 .1 .1 .1 .1 .0) (came-0 t if3′) _ _ _ _ (shut-is t closing′) (if4′ .if4 .taken) (c .refuse3 .ensures)
+
+fork-exchange-requires : (t : ℕ) → fork-lts.Need-exchange-requires (fork-said t) (fork-at t) fork.Post
+fork-exchange-requires t c κs =
+    let scratch2′ = c .before .before .before .before .before .before .before .before .before .before in
+    let branch′ = scratch2′ .before .before .before in
+    let copy′ = branch′ .before .before .before .before .before .before .before .before .before .before in
+    let if1′ = copy′ .before .before .before .before .before .before .before .before .before .before .before in
+    omega (arith, (room t if1′), (scratch2′ .scratch2 .given .1 ∙ copy′ .copy .kept .1 .0), branch′ .branch .kept .1 .1 .1 .1 .1 .1 .0)
+
+fork-sub-branch-3 : (t : ℕ) → fork-lts.Need-sub-branch-3 (fork-said t) (fork-at t) fork.Post
+fork-sub-branch-3 t c =
+    let if1′ = c .before .before .before .before .before .before .before .before .before .before .before .before .before .before .before .before .before .before .before .before .before .before .before .before .before .before .before .before .before .before .before .before .before .before .before .before .before .before .before in
+    pos-of-ne-zero (if1′ .if1 .left)
+
+fork-add-enter-4 : (t : ℕ) → fork-lts.Need-add-enter-4 (fork-said t) (fork-at t) fork.Post
+fork-add-enter-4 t c =
+    let if4′ = c .before .before .before .before .before .before .before .before in
+    let branch′ = if4′ .before .before .before .before .before .before .before .before .before .before .before in
+    let start′ = branch′ .before .before .before .before .before .before .before .before .before .before .before .before .before .before .before .before .before .before .before .before .before .before .before .before .before in
+    record { fits = omega (arith, shut-below (start′ .args .k) (start′ .args .m) (start′ .args .limit) (coinIn (start′ .args .from .regs) (now (start′ .args .mem))) (branch′ .branch .result .used) (branch′ .branch .result .regs) (branch′ .branch .last .1 .1 .1 .1 .1 .1 .0) (closed t if4′), start′ .fits .limit) }
+
+fork-add-enter-5 : (t : ℕ) → fork-lts.Need-add-enter-5 (fork-said t) (fork-at t) fork.Post
+fork-add-enter-5 t c =
+    let if2′ = c .before .before .before .before .before .before .before .before .before .before .before .before .before .before .before .before .before .before .before .before .before .before .before .before .before .before .before .before .before .before .before .before .before .before .before .before .before .before .before in
+    let start′ = if2′ .before .before .before .before .before .before in
+    record { fits = omega (arith, opened (start′ .args .limit) (start′ .args .from .nodes) (start′ .args .from .used) (is-open t if2′), start′ .fits .limit) }
+
+fork-mul-branch-2 : (t : ℕ) → fork-lts.Need-mul-branch-2 (fork-said t) (fork-at t) fork.Post
+fork-mul-branch-2 t c =
+    let start′ = c .before .before .before .before .before .before .before .before .before .before .before .before .before .before .before .before .before .before .before .before .before .before .before .before .before .before .before .before .before .before .before .before .before .before .before .before .before .before .before .before .before .before .before .before .before .before .before in
+    record { fits = omega (arith, start′ .good .1 .1 .1 .1 .1 .0 .1) }
+
+fork-sub-branch-4 : (t : ℕ) → fork-lts.Need-sub-branch-4 (fork-said t) (fork-at t) fork.Post
+fork-sub-branch-4 t c =
+    let exchange′ = c .before .before .before .before .before .before .before .before in
+    let scratch2′ = exchange′ .before .before .before .before .before .before .before .before .before .before .before in
+    let copy′ = scratch2′ .before .before .before .before .before .before .before .before .before .before .before .before .before in
+    let if1′ = copy′ .before .before .before .before .before .before .before .before .before .before .before in
+    omega (arith, (room t if1′), (exchange′ .exchange .kept .1 .0 ∙ (scratch2′ .scratch2 .given .1 ∙ copy′ .copy .kept .1 .0)))
+
+fork-part-branch-start-2 : (t : ℕ) → fork-lts.Need-part-branch-start-2 (fork-said t) (fork-at t) fork.Post
+fork-part-branch-start-2 t c =
+    let exchange′ = c .before .before .before .before .before .before .before .before in
+    let scratch2′ = exchange′ .before .before .before .before .before .before .before .before .before .before .before in
+    let copy′ = scratch2′ .before .before .before .before .before .before .before .before .before .before .before .before .before in
+    let if1′ = copy′ .before .before .before .before .before .before .before .before .before .before .before in
+    omega (arith, (room t if1′), (exchange′ .exchange .kept .1 .0 ∙ (scratch2′ .scratch2 .given .1 ∙ copy′ .copy .kept .1 .0)))
+
+fork-branch-requires-2 : (t : ℕ) → fork-lts.Need-branch-requires-2 (fork-said t) (fork-at t) fork.Post
+fork-branch-requires-2 t c κs =
+    let exchange′ = c .before .before .before .before .before .before .before .before .before .before in
+    let scratch2′ = exchange′ .before .before .before .before .before .before .before .before .before .before .before in
+    let branch′ = scratch2′ .before .before .before in
+    let copy′ = branch′ .before .before .before .before .before .before .before .before .before .before in
+    let if1′ = copy′ .before .before .before .before .before .before .before .before .before .before .before in
+    let start′ = if1′ .before .before .before .before in
+    (omega (arith, start′ .pre .0, pos-of-ne-zero (if1′ .if1 .left)), (sized _ _ _ _ (exchange′ .exchange .kept .0 ∙ branch′ .branch .kept .1 .1 .1 .1 .1 .1 .0) (start′ .pre .1 .0), deeper (start′ .args .nest) (length (now (start′ .args .mem))) (start′ .args .m) (now (start′ .args .scratch)) (exchange′ .exchange .last .1 .0) (if1′ .if1 .left) (roomy t if1′) (exchange′ .exchange .kept .1 .0 ∙ (scratch2′ .scratch2 .given .1 ∙ copy′ .copy .kept .1 .0)) (sym (start′ .pre .1 .0 .3))))
+
+fork-same-length-7 : (t : ℕ) → fork-lts.Need-same-length-7 (fork-said t) (fork-at t) fork.Post
+fork-same-length-7 t c =
+    let branch2′ = c .before .before .before .before .before .before .before .before in
+    let exchange′ = branch2′ .before .before .before .before .before .before .before .before .before .before .before in
+    let branch′ = exchange′ .before .before .before .before .before .before .before .before .before .before .before .before .before .before in
+    (branch2′ .branch2 .kept .1 .1 .1 .1 .1 .1 .0 ∙ (exchange′ .exchange .kept .0 ∙ branch′ .branch .kept .1 .1 .1 .1 .1 .1 .0))
+
+fork-same-length-8 : (t : ℕ) → fork-lts.Need-same-length-8 (fork-said t) (fork-at t) fork.Post
+fork-same-length-8 t c =
+    let scratch4′ = c .before .before .before .before .before in
+    let exchange′ = scratch4′ .before .before .before .before .before .before .before .before .before .before .before .before .before .before in
+    let scratch2′ = exchange′ .before .before .before .before .before .before .before .before .before .before .before in
+    let copy′ = scratch2′ .before .before .before .before .before .before .before .before .before .before .before .before .before in
+    (scratch4′ .scratch4 .given .1 ∙ (exchange′ .exchange .kept .1 .0 ∙ (scratch2′ .scratch2 .given .1 ∙ copy′ .copy .kept .1 .0)))
+
+fork-same-length-9 : (t : ℕ) → fork-lts.Need-same-length-9 (fork-said t) (fork-at t) fork.Post
+fork-same-length-9 t c =
+    let branch2′ = c .before .before .before .before .before .before .before .before in
+    let branch′ = branch2′ .before .before .before .before .before .before .before .before .before .before .before .before .before .before .before .before .before .before .before .before .before .before .before .before .before in
+    (branch2′ .branch2 .kept .1 .1 .1 .1 .1 .1 .1 .1 .0 ∙ branch′ .branch .kept .1 .1 .1 .1 .1 .1 .1 .1 .0)
+
+fork-returns-5 : (t : ℕ) → fork-lts.Need-returns-5 (fork-said t) (fork-at t) fork.Post
+fork-returns-5 t c =
+    let branch2′ = c .before .before .before .before .before .before .before .before in
+    let exchange′ = branch2′ .before .before .before .before .before .before .before .before .before .before .before in
+    let if4′ = exchange′ .before .before .before in
+    let if3′ = if4′ .before .before .before in
+    let branch′ = if3′ .before .before .before .before .before .before .before .before in
+    let if2′ = branch′ .before .before .before .before .before .before .before .before .before .before .before .before .before .before .before .before .before .before .before in
+    let if1′ = if2′ .before .before in
+    let start′ = if1′ .before .before .before .before in
+    refused₁ (start′ .args .k) (start′ .args .m) (start′ .args .limit) (start′ .args .nest) (start′ .args .from .node) (start′ .args .from .nodes) (start′ .args .from .used) (start′ .args .from .regs) (now (start′ .args .mem)) (now (start′ .args .table)) (if1′ .if1 .left) (is-open t if2′) (branch′ .branch .result) (branch′ .branch .last .1 .1 .1 .1 .1 .1 .1 .1 .0) (branch′ .branch .last .1 .1 .1 .1 .1 .1 .0) (came-0 t if3′) (closed t if4′) (exchange′ .exchange .last .0) (back t exchange′) (branch2′ .branch2 .result) (branch2′ .branch2 .last .1 .1 .1 .1 .1 .1 .1 .1 .0) (branch2′ .branch2 .last .1 .1 .1 .1 .1 .1 .0) _ (said₁ t branch2′) (c .if5 .taken)
+
+fork-agree-requires : (t : ℕ) → fork-lts.Need-agree-requires (fork-said t) (fork-at t) fork.Post
+fork-agree-requires t c κs =
+    let scratch4′ = c .before .before .before .before .before .before .before in
+    let branch2′ = scratch4′ .before .before .before in
+    let exchange′ = branch2′ .before .before .before .before .before .before .before .before .before .before .before in
+    let scratch2′ = exchange′ .before .before .before .before .before .before .before .before .before .before .before in
+    let branch′ = scratch2′ .before .before .before in
+    let copy′ = branch′ .before .before .before .before .before .before .before .before .before .before in
+    let if1′ = copy′ .before .before .before .before .before .before .before .before .before .before .before in
+    omega (arith, (room t if1′), (scratch4′ .scratch4 .given .1 ∙ (exchange′ .exchange .kept .1 .0 ∙ (scratch2′ .scratch2 .given .1 ∙ copy′ .copy .kept .1 .0))), (branch2′ .branch2 .kept .1 .1 .1 .1 .1 .1 .0 ∙ (exchange′ .exchange .kept .0 ∙ branch′ .branch .kept .1 .1 .1 .1 .1 .1 .0)))
+
+fork-meeting-requires : (t : ℕ) → fork-lts.Need-meeting-requires (fork-said t) (fork-at t) fork.Post
+fork-meeting-requires t c κs =
+    let branch2′ = c .before .before .before .before .before .before .before .before .before .before .before .before in
+    let exchange′ = branch2′ .before .before .before .before .before .before .before .before .before .before .before in
+    let branch′ = exchange′ .before .before .before .before .before .before .before .before .before .before .before .before .before .before in
+    let start′ = branch′ .before .before .before .before .before .before .before .before .before .before .before .before .before .before .before .before .before .before .before .before .before .before .before .before .before in
+    (branch2′ .branch2 .kept .1 .1 .1 .1 .1 .1 .0 ∙ (exchange′ .exchange .kept .0 ∙ branch′ .branch .kept .1 .1 .1 .1 .1 .1 .0)) ∙ start′ .pre .1 .0 .3
+
+fork-same-length-10 : (t : ℕ) → fork-lts.Need-same-length-10 (fork-said t) (fork-at t) fork.Post
+fork-same-length-10 t c =
+    let branch2′ = c .before .before .before .before .before .before .before .before .before .before .before .before .before .before .before in
+    let exchange′ = branch2′ .before .before .before .before .before .before .before .before .before .before .before in
+    let branch′ = exchange′ .before .before .before .before .before .before .before .before .before .before .before .before .before .before in
+    (branch2′ .branch2 .kept .1 .1 .1 .1 .1 .1 .0 ∙ (exchange′ .exchange .kept .0 ∙ branch′ .branch .kept .1 .1 .1 .1 .1 .1 .0))
+
+fork-same-length-11 : (t : ℕ) → fork-lts.Need-same-length-11 (fork-said t) (fork-at t) fork.Post
+fork-same-length-11 t c =
+    let scratch4′ = c .before .before .before .before .before .before .before .before .before .before .before .before in
+    let exchange′ = scratch4′ .before .before .before .before .before .before .before .before .before .before .before .before .before .before in
+    let scratch2′ = exchange′ .before .before .before .before .before .before .before .before .before .before .before in
+    let copy′ = scratch2′ .before .before .before .before .before .before .before .before .before .before .before .before .before in
+    (scratch4′ .scratch4 .given .1 ∙ (exchange′ .exchange .kept .1 .0 ∙ (scratch2′ .scratch2 .given .1 ∙ copy′ .copy .kept .1 .0)))
+
+fork-same-length-12 : (t : ℕ) → fork-lts.Need-same-length-12 (fork-said t) (fork-at t) fork.Post
+fork-same-length-12 t c =
+    let branch2′ = c .before .before .before .before .before .before .before .before .before .before .before .before .before .before .before in
+    let branch′ = branch2′ .before .before .before .before .before .before .before .before .before .before .before .before .before .before .before .before .before .before .before .before .before .before .before .before .before in
+    (branch2′ .branch2 .kept .1 .1 .1 .1 .1 .1 .1 .1 .0 ∙ branch′ .branch .kept .1 .1 .1 .1 .1 .1 .1 .1 .0)
+
+fork-returns-6 : (t : ℕ) → fork-lts.Need-returns-6 (fork-said t) (fork-at t) fork.Post
+fork-returns-6 t c =
+    let if6′ = c .before in
+    let meeting′ = if6′ .before in
+    let agree′ = meeting′ .before .before in
+    let if5′ = agree′ .before .before .before in
+    let branch2′ = if5′ .before .before .before .before .before .before .before .before in
+    let exchange′ = branch2′ .before .before .before .before .before .before .before .before .before .before .before in
+    let if4′ = exchange′ .before .before .before in
+    let if3′ = if4′ .before .before .before in
+    let branch′ = if3′ .before .before .before .before .before .before .before .before in
+    let look′ = branch′ .before .before .before .before .before .before .before .before .before .before .before .before .before in
+    let coin-at′ = look′ .before .before in
+    let if2′ = coin-at′ .before .before .before .before in
+    let if1′ = if2′ .before .before in
+    let start′ = if1′ .before .before .before .before in
+    shut₁ (start′ .args .k) (start′ .args .m) (start′ .args .limit) (start′ .args .nest) (start′ .args .from .node) (start′ .args .from .nodes) (start′ .args .from .used) (start′ .args .from .regs) (now (start′ .args .mem)) (now (start′ .args .table)) (if1′ .if1 .left) (is-open t if2′) (branch′ .branch .result) (branch′ .branch .last .1 .1 .1 .1 .1 .1 .1 .1 .0) (branch′ .branch .last .1 .1 .1 .1 .1 .1 .0) (came-0 t if3′) (closed t if4′) (exchange′ .exchange .last .0) (back t exchange′) (branch2′ .branch2 .result) (branch2′ .branch2 .last .1 .1 .1 .1 .1 .1 .1 .1 .0) (branch2′ .branch2 .last .1 .1 .1 .1 .1 .1 .0) (came-1 t if5′) (look′ .look .result) (look′ .look .ensures ∙ ap (λ (i : ℕ). getD (start′ .args .from .regs) i 0) (coin-at′ .coin-at .ensures)) (agree′ .agree .result) (told t agree′) _ _ _ _ (met-is t meeting′) (if6′ .if6 .taken) (c .refuse4 .ensures)
+
+fork-join-requires : (t : ℕ) → fork-lts.Need-join-requires (fork-said t) (fork-at t) fork.Post
+fork-join-requires t c κs =
+    let if6′ = c .before .before in
+    let agree′ = if6′ .before .before .before in
+    let if5′ = agree′ .before .before .before in
+    let branch2′ = if5′ .before .before .before .before .before .before .before .before in
+    let exchange′ = branch2′ .before .before .before .before .before .before .before .before .before .before .before in
+    let if4′ = exchange′ .before .before .before in
+    let if3′ = if4′ .before .before .before in
+    let branch′ = if3′ .before .before .before .before .before .before .before .before in
+    let look′ = branch′ .before .before .before .before .before .before .before .before .before .before .before .before .before in
+    let coin-at′ = look′ .before .before in
+    let if2′ = coin-at′ .before .before .before .before in
+    let if1′ = if2′ .before .before in
+    let start′ = if1′ .before .before .before .before in
+    let j = met-below (start′ .args .k) (start′ .args .m) (start′ .args .limit) (coinIn (start′ .args .from .regs) (now (start′ .args .mem))) (branch2′ .branch2 .result .nodes) (branch2′ .branch2 .result .used) (branch2′ .branch2 .result .regs) (branch2′ .branch2 .last .1 .1 .1 .1 .1 .1 .0) (agree′ .agree .result) (met t if6′) in (opened (start′ .args .limit) (start′ .args .from .nodes) (start′ .args .from .used) (is-open t if2′) .1, j .1, omega (arith, j .0, start′ .fits .limit), short (start′ .args .k) (start′ .args .m) (start′ .args .limit) (start′ .args .nest) (start′ .args .from .node) (start′ .args .from .nodes) (start′ .args .from .used) (start′ .args .from .regs) (now (start′ .args .mem)) (now (start′ .args .table)) (if1′ .if1 .left) (is-open t if2′) (branch′ .branch .result) (branch′ .branch .last .1 .1 .1 .1 .1 .1 .1 .1 .0) (branch′ .branch .last .1 .1 .1 .1 .1 .1 .0) (came-0 t if3′) (closed t if4′) (exchange′ .exchange .last .0) (back t exchange′) (branch2′ .branch2 .result) (branch2′ .branch2 .last .1 .1 .1 .1 .1 .1 .1 .1 .0) (branch2′ .branch2 .last .1 .1 .1 .1 .1 .1 .0) (came-1 t if5′) (look′ .look .result) (look′ .look .ensures ∙ ap (λ (i : ℕ). getD (start′ .args .from .regs) i 0) (coin-at′ .coin-at .ensures)) (agree′ .agree .result) (told t agree′))
+
+fork-same-length-13 : (t : ℕ) → fork-lts.Need-same-length-13 (fork-said t) (fork-at t) fork.Post
+fork-same-length-13 t c =
+    let branch2′ = c .before .before .before .before .before .before .before .before .before .before .before .before .before .before .before .before .before .before .before in
+    let exchange′ = branch2′ .before .before .before .before .before .before .before .before .before .before .before in
+    let branch′ = exchange′ .before .before .before .before .before .before .before .before .before .before .before .before .before .before in
+    (branch2′ .branch2 .kept .1 .1 .1 .1 .1 .1 .0 ∙ (exchange′ .exchange .kept .0 ∙ branch′ .branch .kept .1 .1 .1 .1 .1 .1 .0))
+
+fork-same-length-14 : (t : ℕ) → fork-lts.Need-same-length-14 (fork-said t) (fork-at t) fork.Post
+fork-same-length-14 t c =
+    let scratch4′ = c .before .before .before .before .before .before .before .before .before .before .before .before .before .before .before .before in
+    let exchange′ = scratch4′ .before .before .before .before .before .before .before .before .before .before .before .before .before .before in
+    let scratch2′ = exchange′ .before .before .before .before .before .before .before .before .before .before .before in
+    let copy′ = scratch2′ .before .before .before .before .before .before .before .before .before .before .before .before .before in
+    (scratch4′ .scratch4 .given .1 ∙ (exchange′ .exchange .kept .1 .0 ∙ (scratch2′ .scratch2 .given .1 ∙ copy′ .copy .kept .1 .0)))
+
+fork-same-length-15 : (t : ℕ) → fork-lts.Need-same-length-15 (fork-said t) (fork-at t) fork.Post
+fork-same-length-15 t c =
+    let join′ = c .before .before in
+    let branch2′ = join′ .before .before .before .before .before .before .before .before .before .before .before .before .before .before .before .before .before in
+    let branch′ = branch2′ .before .before .before .before .before .before .before .before .before .before .before .before .before .before .before .before .before .before .before .before .before .before .before .before .before in
+    join′ .join .kept .1 .1 .1 .1 .0 ∙ (branch2′ .branch2 .kept .1 .1 .1 .1 .1 .1 .1 .1 .0 ∙ branch′ .branch .kept .1 .1 .1 .1 .1 .1 .1 .1 .0)
+
+fork-returns-7 : (t : ℕ) → fork-lts.Need-returns-7 (fork-said t) (fork-at t) fork.Post
+fork-returns-7 t c =
+    let join′ = c .before .before in
+    let leave′ = join′ .before .before in
+    let if6′ = leave′ .before in
+    let agree′ = if6′ .before .before .before in
+    let if5′ = agree′ .before .before .before in
+    let branch2′ = if5′ .before .before .before .before .before .before .before .before in
+    let exchange′ = branch2′ .before .before .before .before .before .before .before .before .before .before .before in
+    let if4′ = exchange′ .before .before .before in
+    let if3′ = if4′ .before .before .before in
+    let branch′ = if3′ .before .before .before .before .before .before .before .before in
+    let look′ = branch′ .before .before .before .before .before .before .before .before .before .before .before .before .before in
+    let coin-at′ = look′ .before .before in
+    let if2′ = coin-at′ .before .before .before .before in
+    let if1′ = if2′ .before .before in
+    let start′ = if1′ .before .before .before .before in
+    done (start′ .args .k) (start′ .args .m) (start′ .args .limit) (start′ .args .nest) (start′ .args .from .node) (start′ .args .from .nodes) (start′ .args .from .used) (start′ .args .from .regs) (now (start′ .args .mem)) (now (start′ .args .table)) (if1′ .if1 .left) (is-open t if2′) (branch′ .branch .result) (branch′ .branch .last .1 .1 .1 .1 .1 .1 .1 .1 .0) (branch′ .branch .last .1 .1 .1 .1 .1 .1 .0) (came-0 t if3′) (closed t if4′) (exchange′ .exchange .last .0) (back t exchange′) (branch2′ .branch2 .result) (branch2′ .branch2 .last .1 .1 .1 .1 .1 .1 .1 .1 .0) (branch2′ .branch2 .last .1 .1 .1 .1 .1 .1 .0) (came-1 t if5′) (look′ .look .result) (look′ .look .ensures ∙ ap (λ (i : ℕ). getD (start′ .args .from .regs) i 0) (coin-at′ .coin-at .ensures)) (agree′ .agree .result) (told t agree′) _ _ (met t if6′) (join′ .join .ensures .0 ∙ ap (λ (x : List ℕ). walkedAt x (branch2′ .branch2 .result .used + 1) (2 + (branch′ .branch .result .cycles + (branch2′ .branch2 .result .cycles - branch′ .branch .result .cycles))) (branch2′ .branch2 .result .nodes + 1) (branch2′ .branch2 .result .nodes + 1)) (leave′ .leave .ensures ∙ ap (λ (i : ℕ). left (branch′ .branch .result .regs) i (look′ .look .result)) (coin-at′ .coin-at .ensures))) (join′ .join .ensures .1)
 
 pub +branch+fork-spec : {M : Type 1} → statement M
 +branch+fork-spec = close μ-branch μ-fork (λ t. branch-lts.spec (
@@ -230,56 +716,52 @@ pub +branch+fork-spec : {M : Type 1} → statement M
     branch.Post
     branch-Inv-loop
     branch-μ-loop
+    (λ c κs. search needs) (λ c. (begun _ _ _ _ _ _ _ _ _ _ _ _ (c .walked-at .ensures), refl))
+    (branch-advance-requires t)
+    (λ c. search needs) (λ c κs. search needs)
+    (branch-same-length t)
+    (λ c. let loop′ = c .before .before .before .before .before .before .before .before .before in loop′ .loop .inv .1)
+    (λ c. let loop′ = c .before .before .before .before .before .before .before .before .before in loop′ .loop .inv .0 .long)
+    (branch-returns t)
+    (λ c. search needs) (λ c κs. search needs)
+    (branch-same-length-4 t)
+    (λ c. let loop′ = c .before .before .before .before .before .before .before .before .before in loop′ .loop .inv .1)
+    (λ c. let loop′ = c .before .before .before .before .before .before .before .before .before in loop′ .loop .inv .0 .long)
+    (branch-returns-2 t)
+    (branch-same-length-7 t)
+    (λ c. let loop′ = c .before .before .before .before .before .before .before .before in loop′ .loop .inv .1)
+    (λ c. let loop′ = c .before .before .before .before .before .before .before .before in loop′ .loop .inv .0 .long)
+    (branch-returns-3 t)
+    (λ c. search needs) (λ c κs. search needs)
+    (branch-same-length-10 t)
+    (λ c. let loop′ = c .before .before .before .before .before .before .before .before .before .before in loop′ .loop .inv .1)
+    (λ c. let loop′ = c .before .before .before .before .before .before .before .before .before .before in loop′ .loop .inv .0 .long)
+    (branch-returns-4 t)
+    (branch-add-used t)
+    (branch-add-cycles t)
     (λ c κs. search needs)
-    (λ c. (begun _ _ _ _ _ _ _ _ _ _ _ _ ((c .walked-at) .ensures), refl))
-    (λ c κs. sized _ _ _ _ ((c .before .before .loop) .inv .0 .even) ((c .before .before .before .before .before .before .before .before) .pre .1 .0))
+    (branch-loop-less t)
+    (branch-loop-again t)
     (λ c. search needs)
+    (branch-fork-requires t)
+    (branch-same-length-13 t)
+    (branch-same-length-14 t)
+    (branch-same-length-15 t)
+    (branch-returns-5 t)
+    (branch-add-cycles-2 t)
     (λ c κs. search needs)
-    (λ c. (c .before .before .before .before .before .before .advance) .kept .1 .1 .1 .0 ∙ (c .before .before .before .before .before .before .before .before .before .loop) .inv .0 .even)
-    (λ c. (c .before .before .before .before .before .before .before .before .before .loop) .inv .1)
-    (λ c. (c .before .before .before .before .before .before .before .before .before .loop) .inv .0 .long)
-    (λ c. from-begin _ _ _ _ _ _ _ _ _ _ _ _ _ _ _ ((c .before .before .before .before .before .before .before .before .before .before .walked-at) .ensures) (halted _ _ _ _ _ _ _ _ _ _ _ _ _ _ ((c .before .before .before .before .before .before .before .before .before .loop) .inv .0) ((c .before .before .before .before .before .before .advance) .result .seen) ((c .before .before .before .before .before .before .advance) .result .regs) ((c .before .before .before .before .before .before .advance) .last .1 .1 .1 .0) ((c .before .before .before .before .before .before .advance) .ensures) _ _ _ _ ((c .before .before .seen) .given .1) ((c .refuse) .ensures)))
+    (branch-loop-less-2 t)
+    (branch-loop-again-2 t)
     (λ c. search needs)
+    (branch-same-length-16 t)
+    (λ c. let loop′ = c .before .before .before .before .before .before .before .before in loop′ .loop .inv .1)
+    (λ c. let loop′ = c .before .before .before .before .before .before .before .before in loop′ .loop .inv .0 .long)
+    (branch-returns-6 t)
     (λ c κs. search needs)
-    (λ c. (c .before .before .before .before .before .before .advance) .kept .1 .1 .1 .0 ∙ (c .before .before .before .before .before .before .before .before .before .loop) .inv .0 .even)
-    (λ c. (c .before .before .before .before .before .before .before .before .before .loop) .inv .1)
-    (λ c. (c .before .before .before .before .before .before .before .before .before .loop) .inv .0 .long)
-    (λ c. from-begin _ _ _ _ _ _ _ _ _ _ _ _ _ _ _ ((c .before .before .before .before .before .before .before .before .before .before .walked-at) .ensures) (finished-in _ _ _ _ _ _ _ _ _ _ _ _ _ _ ((c .before .before .before .before .before .before .before .before .before .loop) .inv .0) ((c .before .before .before .before .before .before .advance) .result .seen) ((c .before .before .before .before .before .before .advance) .result .regs) ((c .before .before .before .before .before .before .advance) .last .1 .1 .1 .0) ((c .before .before .before .before .before .before .advance) .ensures) _ _ _ ((c .before .before .enum-told) .given .1) ((c .before .if1) .taken) ((c .refuse2) .ensures)))
-    (λ c. (c .before .before .before .before .before .advance) .kept .1 .1 .1 .0 ∙ (c .before .before .before .before .before .before .before .before .loop) .inv .0 .even)
-    (λ c. (c .before .before .before .before .before .before .before .before .loop) .inv .1)
-    (λ c. (c .before .before .before .before .before .before .before .before .loop) .inv .0 .long)
-    (λ c. from-begin _ _ _ _ _ _ _ _ _ _ _ _ _ _ _ ((c .before .before .before .before .before .before .before .before .before .walked-at) .ensures) (finished _ _ _ _ _ _ _ _ _ _ _ _ _ _ ((c .before .before .before .before .before .before .before .before .loop) .inv .0) ((c .before .before .before .before .before .advance) .result .seen) ((c .before .before .before .before .before .advance) .result .regs) ((c .before .before .before .before .before .advance) .last .1 .1 .1 .0) ((c .before .before .before .before .before .advance) .ensures) ((c .before .enum-told) .given .1) ((c .if1) .left)))
-    (λ c. search needs)
-    (λ c κs. search needs)
-    (λ c. (c .before .before .before .before .before .before .before .advance) .kept .1 .1 .1 .0 ∙ (c .before .before .before .before .before .before .before .before .before .before .loop) .inv .0 .even)
-    (λ c. (c .before .before .before .before .before .before .before .before .before .before .loop) .inv .1)
-    (λ c. (c .before .before .before .before .before .before .before .before .before .before .loop) .inv .0 .long)
-    (λ c. from-begin _ _ _ _ _ _ _ _ _ _ _ _ _ _ _ ((c .before .before .before .before .before .before .before .before .before .before .before .walked-at) .ensures) (limited _ _ _ _ _ _ _ _ _ _ _ _ _ _ ((c .before .before .before .before .before .before .before .before .before .before .loop) .inv .0) ((c .before .before .before .before .before .before .before .advance) .result .seen) ((c .before .before .before .before .before .before .before .advance) .result .regs) ((c .before .before .before .before .before .before .before .advance) .last .1 .1 .1 .0) ((c .before .before .before .before .before .before .before .advance) .ensures) _ _ _ ((c .before .before .before .enum-told2) .given .1) ((c .before .if2) .taken) ((c .refuse3) .ensures)))
-    (λ c. record { fits = omega (arith, (c .before .before .if2) .left, (c .before .before .before .before .before .before .before .before .before .before .before .before .before .before .before .before .before) .fits .limit) })
-    (λ c. record { fits = omega (arith, small _ _ _ _ _ _ _ _ _ _ _ _ _ _ ((c .before .before .before .before .before .before .before .before .before .before .before .before .loop) .inv .0), (c .before .before .before .if2) .left, (c .before .before .before .before .before .before .before .before .before .before .before .before .before .before .before .before .before .before) .fits .limit) })
-    (λ c κs. search needs)
-    (λ c. omega (arith, (c .before .before .before .before .if2) .left, ap (λ (a : Walked). a .used) ((c .walked-at2) .ensures)))
-    (λ c. (goes-on _ _ _ _ _ _ _ _ _ _ _ _ _ _ ((c .before .before .before .before .before .before .before .before .before .before .before .before .before .loop) .inv .0) ((c .before .before .before .before .before .before .before .before .before .before .advance) .result .seen) ((c .before .before .before .before .before .before .before .before .before .before .advance) .result .regs) ((c .before .before .before .before .before .before .before .before .before .before .advance) .last .1 .1 .1 .0) ((c .before .before .before .before .before .before .before .before .before .before .advance) .ensures) _ ((c .before .before .before .before .before .before .enum-told2) .given .1) ((c .before .before .before .before .if2) .left) ((c .before .before .before .before .before .before .before .before .before .before .advance) .kept .1 .1 .1 .0) ((c .walked-at2) .ensures), (c .before .before .before .before .before .before .before .before .before .before .before .before .before .loop) .inv .1))
-    (λ c. search needs)
-    (λ c κs. let e = (c .before .before .before .before .before .before .before .before .before .before .before .before .before .before .before .before) .pre .1 in (omega (arith, (c .before .before .before .before .before .before .before .before .before .before .before .before .before .before .before .before) .pre .0), (sized _ _ _ _ ((c .before .before .before .before .before .before .before .advance) .kept .1 .1 .1 .0 ∙ (c .before .before .before .before .before .before .before .before .before .before .loop) .inv .0 .even) (e .0), as-long _ _ _ _ _ refl ((c .before .before .before .before .before .before .before .before .before .before .loop) .inv .1) (e .1))))
-    (λ c. (c .before .before .before .before .before .before .before .before .fork) .kept .1 .1 .1 .1 .1 .0 ∙ ((c .before .before .before .before .before .before .before .before .before .before .before .before .before .before .before .before .advance) .kept .1 .1 .1 .0 ∙ (c .before .before .before .before .before .before .before .before .before .before .before .before .before .before .before .before .before .before .before .loop) .inv .0 .even))
-    (λ c. (c .before .before .before .before .before .before .before .before .fork) .kept .1 .1 .1 .1 .1 .1 .0 ∙ ((c .before .before .before .before .before .before .before .before .before .before .before .before .before .before .before .before .before .before .before .loop) .inv .1))
-    (λ c. (c .before .before .before .before .before .before .before .before .fork) .kept .1 .1 .1 .1 .1 .1 .1 .0 ∙ ((c .before .before .before .before .before .before .before .before .before .before .before .before .before .before .before .before .before .before .before .loop) .inv .0 .long))
-    (λ c. from-begin _ _ _ _ _ _ _ _ _ _ _ _ _ _ _ ((c .before .before .before .before .before .before .before .before .before .before .before .before .before .before .before .before .before .before .before .before .walked-at) .ensures) (fork-out _ _ _ _ _ _ _ _ _ _ _ _ _ _ ((c .before .before .before .before .before .before .before .before .before .before .before .before .before .before .before .before .before .before .before .loop) .inv .0) ((c .before .before .before .before .before .before .before .before .before .before .before .before .before .before .before .before .advance) .result .seen) ((c .before .before .before .before .before .before .before .before .before .before .before .before .before .before .before .before .advance) .result .regs) ((c .before .before .before .before .before .before .before .before .before .before .before .before .before .before .before .before .advance) .last .1 .1 .1 .0) ((c .before .before .before .before .before .before .before .before .before .before .before .before .before .before .before .before .advance) .ensures) ((c .before .before .before .before .before .before .before .before .before .before .before .before .enum-told3) .given .1) _ _ _ ((c .before .before .before .before .before .before .before .before .fork) .ensures) ((c .if3) .taken)))
-    (λ c. record { fits = omega (arith, fork-fits _ _ _ _ _ _ _ _ _ _ _ _ _ _ ((c .before .before .before .before .before .before .before .before .before .before .before .before .before .before .before .before .before .before .before .before .before .before .loop) .inv .0) ((c .before .before .before .before .before .before .before .before .before .before .before .before .before .before .before .before .before .before .before .advance) .result .seen) ((c .before .before .before .before .before .before .before .before .before .before .before .before .before .before .before .before .before .before .before .advance) .result .regs) ((c .before .before .before .before .before .before .before .before .before .before .before .before .before .before .before .before .before .before .before .advance) .last .1 .1 .1 .0) ((c .before .before .before .before .before .before .before .before .before .before .before .before .before .before .before .before .before .before .before .advance) .ensures) ((c .before .before .before .before .before .before .before .before .before .before .before .before .before .before .before .enum-told3) .given .1) _ _ _ (taken _ _ _ _ _ _ _ _ _ _ _ _ _ _ ((c .before .before .before .before .before .before .before .before .before .before .before .before .before .before .before .before .before .before .before .before .before .before .loop) .inv .0) ((c .before .before .before .before .before .before .before .before .before .before .before .before .before .before .before .before .before .before .before .advance) .result .seen) ((c .before .before .before .before .before .before .before .before .before .before .before .before .before .before .before .before .before .before .before .advance) .result .regs) ((c .before .before .before .before .before .before .before .before .before .before .before .before .before .before .before .before .before .before .before .advance) .last .1 .1 .1 .0) ((c .before .before .before .before .before .before .before .before .before .before .before .before .before .before .before .before .before .before .before .advance) .ensures) ((c .before .before .before .before .before .before .before .before .before .before .before .before .before .before .before .enum-told3) .given .1) _ _ _ ((c .before .before .before .before .before .before .before .before .before .before .before .fork) .ensures) ((c .before .before .before .if3) .left)), (c .struct-known6) .given) })
-    (λ c κs. search needs)
-    (λ c. omega (arith, fork-falls _ _ _ _ _ _ _ _ _ _ _ _ _ _ ((c .before .before .before .before .before .before .before .before .before .before .before .before .before .before .before .before .before .before .before .before .before .before .before .loop) .inv .0) ((c .before .before .before .before .before .before .before .before .before .before .before .before .before .before .before .before .before .before .before .before .advance) .result .seen) ((c .before .before .before .before .before .before .before .before .before .before .before .before .before .before .before .before .before .before .before .before .advance) .result .regs) ((c .before .before .before .before .before .before .before .before .before .before .before .before .before .before .before .before .before .before .before .before .advance) .last .1 .1 .1 .0) ((c .before .before .before .before .before .before .before .before .before .before .before .before .before .before .before .before .before .before .before .before .advance) .ensures) ((c .before .before .before .before .before .before .before .before .before .before .before .before .before .before .before .before .enum-told3) .given .1) _ _ _ (taken _ _ _ _ _ _ _ _ _ _ _ _ _ _ ((c .before .before .before .before .before .before .before .before .before .before .before .before .before .before .before .before .before .before .before .before .before .before .before .loop) .inv .0) ((c .before .before .before .before .before .before .before .before .before .before .before .before .before .before .before .before .before .before .before .before .advance) .result .seen) ((c .before .before .before .before .before .before .before .before .before .before .before .before .before .before .before .before .before .before .before .before .advance) .result .regs) ((c .before .before .before .before .before .before .before .before .before .before .before .before .before .before .before .before .before .before .before .before .advance) .last .1 .1 .1 .0) ((c .before .before .before .before .before .before .before .before .before .before .before .before .before .before .before .before .before .before .before .before .advance) .ensures) ((c .before .before .before .before .before .before .before .before .before .before .before .before .before .before .before .before .enum-told3) .given .1) _ _ _ ((c .before .before .before .before .before .before .before .before .before .before .before .before .fork) .ensures) ((c .before .before .before .before .if3) .left)), ap (λ (a : Walked). a .used) ((c .walked-at3) .ensures)))
-    (λ c. (forks-on _ _ _ _ _ _ _ _ _ _ _ _ _ _ ((c .before .before .before .before .before .before .before .before .before .before .before .before .before .before .before .before .before .before .before .before .before .before .before .loop) .inv .0) ((c .before .before .before .before .before .before .before .before .before .before .before .before .before .before .before .before .before .before .before .before .advance) .result .seen) ((c .before .before .before .before .before .before .before .before .before .before .before .before .before .before .before .before .before .before .before .before .advance) .result .regs) ((c .before .before .before .before .before .before .before .before .before .before .before .before .before .before .before .before .before .before .before .before .advance) .last .1 .1 .1 .0) ((c .before .before .before .before .before .before .before .before .before .before .before .before .before .before .before .before .before .before .before .before .advance) .ensures) ((c .before .before .before .before .before .before .before .before .before .before .before .before .before .before .before .before .enum-told3) .given .1) _ _ _ (taken _ _ _ _ _ _ _ _ _ _ _ _ _ _ ((c .before .before .before .before .before .before .before .before .before .before .before .before .before .before .before .before .before .before .before .before .before .before .before .loop) .inv .0) ((c .before .before .before .before .before .before .before .before .before .before .before .before .before .before .before .before .before .before .before .before .advance) .result .seen) ((c .before .before .before .before .before .before .before .before .before .before .before .before .before .before .before .before .before .before .before .before .advance) .result .regs) ((c .before .before .before .before .before .before .before .before .before .before .before .before .before .before .before .before .before .before .before .before .advance) .last .1 .1 .1 .0) ((c .before .before .before .before .before .before .before .before .before .before .before .before .before .before .before .before .before .before .before .before .advance) .ensures) ((c .before .before .before .before .before .before .before .before .before .before .before .before .before .before .before .before .enum-told3) .given .1) _ _ _ ((c .before .before .before .before .before .before .before .before .before .before .before .before .fork) .ensures) ((c .before .before .before .before .if3) .left)) _ ((c .before .before .before .before .before .before .before .before .before .before .before .before .fork) .kept .1 .1 .1 .1 .1 .1 .1 .0) ((c .before .before .before .before .before .before .before .before .before .before .before .before .fork) .kept .1 .1 .1 .1 .1 .0 ∙ (c .before .before .before .before .before .before .before .before .before .before .before .before .before .before .before .before .before .before .before .before .advance) .kept .1 .1 .1 .0) ((c .walked-at3) .ensures), (c .before .before .before .before .before .before .before .before .before .before .before .before .fork) .kept .1 .1 .1 .1 .1 .1 .0 ∙ (c .before .before .before .before .before .before .before .before .before .before .before .before .before .before .before .before .before .before .before .before .before .before .before .loop) .inv .1))
-    (λ c. search needs)
-    (λ c. (c .before .before .before .before .before .advance) .kept .1 .1 .1 .0 ∙ (c .before .before .before .before .before .before .before .before .loop) .inv .0 .even)
-    (λ c. (c .before .before .before .before .before .before .before .before .loop) .inv .1)
-    (λ c. (c .before .before .before .before .before .before .before .before .loop) .inv .0 .long)
-    (λ c. from-begin _ _ _ _ _ _ _ _ _ _ _ _ _ _ _ ((c .before .before .before .before .before .before .before .before .before .walked-at) .ensures) (joined _ _ _ _ _ _ _ _ _ _ _ _ _ _ ((c .before .before .before .before .before .before .before .before .loop) .inv .0) ((c .before .before .before .before .before .advance) .result .seen) ((c .before .before .before .before .before .advance) .result .regs) ((c .before .before .before .before .before .advance) .last .1 .1 .1 .0) ((c .before .before .before .before .before .advance) .ensures) ((c .before .enum-told4) .given .1) ((c .if4) .taken)))
-    (λ c κs. search needs)
-    (λ c. (c .before .before .before .before .before .before .advance) .kept .1 .1 .1 .0 ∙ (c .before .before .before .before .before .before .before .before .before .loop) .inv .0 .even)
-    (λ c. (c .before .before .before .before .before .before .before .before .before .loop) .inv .1)
-    (λ c. (c .before .before .before .before .before .before .before .before .before .loop) .inv .0 .long)
-    (λ c. from-begin _ _ _ _ _ _ _ _ _ _ _ _ _ _ _ ((c .before .before .before .before .before .before .before .before .before .before .walked-at) .ensures) (joined-out _ _ _ _ _ _ _ _ _ _ _ _ _ _ ((c .before .before .before .before .before .before .before .before .before .loop) .inv .0) ((c .before .before .before .before .before .before .advance) .result .seen) ((c .before .before .before .before .before .before .advance) .result .regs) ((c .before .before .before .before .before .before .advance) .last .1 .1 .1 .0) ((c .before .before .before .before .before .before .advance) .ensures) _ _ _ ((c .before .before .enum-told4) .given .1) ((c .before .if4) .left) ((c .refuse4) .ensures))))
+    (branch-same-length-19 t)
+    (λ c. let loop′ = c .before .before .before .before .before .before .before .before .before in loop′ .loop .inv .1)
+    (λ c. let loop′ = c .before .before .before .before .before .before .before .before .before in loop′ .loop .inv .0 .long)
+    (branch-returns-7 t))
     λ t. fork-lts.spec (
       refuse-reads.Asked,
       refuse-reads.Learnt,
@@ -311,59 +793,56 @@ pub +branch+fork-spec : {M : Type 1} → statement M
     (fork-at t)
     fork.Post
     (λ c κs. search needs)
-    (λ c. let g = (c .before .before .before .before .before) .args in none (g .k) (g .m) (g .limit) (g .nest) (g .from .node) (g .from .nodes) (g .from .used) (g .from .regs) (now (g .mem)) (now (g .table)) _ _ _ ((c .before .if1) .taken) ((c .refuse) .ensures))
+    (fork-returns t)
+    (λ c κs. search needs) (λ c κs. search needs)
+    (fork-returns-2 t)
+    (λ c. search needs) (λ c κs. let start′ = c .before .before .before .before .before .before .before .before .before in start′ .pre .1 .0 .3)
+    (λ c. search needs) (λ c κs. search needs)
+    (λ c κs. let if1′ = c .before .before .before .before .before .before .before .before .before .before in (room t if1′))
+    (fork-sub-branch t)
+    (fork-add-enter t)
+    (fork-add-enter-2 t)
+    (fork-add-enter-3 t)
     (λ c κs. search needs)
-    (λ c κs. search needs)
-    (λ c. let g = (c .before .before .before .before .before .before .before) .args in shut (g .k) (g .m) (g .limit) (g .nest) (g .from .node) (g .from .nodes) (g .from .used) (g .from .regs) (now (g .mem)) (now (g .table)) ((c .before .before .before .if1) .left) _ _ _ _ ((c .before .before .opening) .ensures) ((c .before .if2) .taken) ((c .refuse2) .ensures))
-    (λ c. search needs)
-    (λ c κs. (c .before .before .before .before .before .before .before .before .before) .pre .1 .0 .3)
-    (λ c. search needs)
-    (λ c κs. search needs)
-    (λ c κs. let g = (c .before .before .before .before .before .before .before .before .before .before .before .before .before .before) .args in fits (g .nest) (length (now (g .mem))) (length (now (g .scratch))) ((c .before .before .before .before .before .before .before .before .before .before .if1) .left) (as-long (g .nest) (g .m) (length (now (g .scratch))) (length (now (g .mem))) (length (now (g .scratch))) ((c .before .before .before .before .before .before .before .before .before .before .before .before .before .before) .pre .1 .0 .3) refl ((c .before .before .before .before .before .before .before .before .before .before .before .before .before .before) .pre .1 .1)))
-    (λ c. pos-of-ne-zero ((c .before .before .before .before .before .before .before .before .before .before .before .before .before .if1) .left))
-    (λ c. let g = (c .before .before .before .before .before .before .before .before .before .before .before .before .before .before .before .before .before .before) .args in record { fits = omega (arith, opened (g .limit) (g .from .nodes) (g .from .used) (sym ((c .before .before .before .before .before .before .before .before .before .before .before .before .before .opening) .ensures) ∙ (c .before .before .before .before .before .before .before .before .before .before .before .before .if2) .left), (c .before .before .before .before .before .before .before .before .before .before .before .before .before .before .before .before .before .before) .fits .limit) })
-    (λ c. let g = (c .before .before .before .before .before .before .before .before .before .before .before .before .before .before .before .before .before .before .before) .args in record { fits = omega (arith, opened (g .limit) (g .from .nodes) (g .from .used) (sym ((c .before .before .before .before .before .before .before .before .before .before .before .before .before .before .opening) .ensures) ∙ (c .before .before .before .before .before .before .before .before .before .before .before .before .before .if2) .left), (c .before .before .before .before .before .before .before .before .before .before .before .before .before .before .before .before .before .before .before) .fits .limit) })
-    (λ c. let g = (c .before .before .before .before .before .before .before .before .before .before .before .before .before .before .before .before .before .before .before .before) .args in record { fits = omega (arith, opened (g .limit) (g .from .nodes) (g .from .used) (sym ((c .before .before .before .before .before .before .before .before .before .before .before .before .before .before .before .opening) .ensures) ∙ (c .before .before .before .before .before .before .before .before .before .before .before .before .before .before .if2) .left), (c .before .before .before .before .before .before .before .before .before .before .before .before .before .before .before .before .before .before .before .before) .fits .limit) })
-    (λ c κs. search needs)
-    (λ c. record { fits = omega (arith, (c .before .before .before .before .before .before .before .before .before .before .before .before .before .before .before .before .before .before .before .before .before .before) .good .1 .1 .1 .1 .1 .0 .1) })
-    (λ c. let g = (c .before .before .before .before .before .before .before .before .before .before .before .before .before .before .before .before .before .before .before .before .before .before) .args in omega (arith, fits (g .nest) (length (now (g .mem))) (length (now (g .scratch))) ((c .before .before .before .before .before .before .before .before .before .before .before .before .before .before .before .before .before .before .if1) .left) (as-long (g .nest) (g .m) (length (now (g .scratch))) (length (now (g .mem))) (length (now (g .scratch))) ((c .before .before .before .before .before .before .before .before .before .before .before .before .before .before .before .before .before .before .before .before .before .before) .pre .1 .0 .3) refl ((c .before .before .before .before .before .before .before .before .before .before .before .before .before .before .before .before .before .before .before .before .before .before) .pre .1 .1)), (c .before .before .before .before .before .before .before .copy) .kept .1 .0))
-    (λ c. let g = (c .before .before .before .before .before .before .before .before .before .before .before .before .before .before .before .before .before .before .before .before .before .before) .args in omega (arith, fits (g .nest) (length (now (g .mem))) (length (now (g .scratch))) ((c .before .before .before .before .before .before .before .before .before .before .before .before .before .before .before .before .before .before .if1) .left) (as-long (g .nest) (g .m) (length (now (g .scratch))) (length (now (g .mem))) (length (now (g .scratch))) ((c .before .before .before .before .before .before .before .before .before .before .before .before .before .before .before .before .before .before .before .before .before .before) .pre .1 .0 .3) refl ((c .before .before .before .before .before .before .before .before .before .before .before .before .before .before .before .before .before .before .before .before .before .before) .pre .1 .1)), (c .before .before .before .before .before .before .before .copy) .kept .1 .0))
+    (fork-mul-branch t)
+    (fork-sub-branch-2 t)
+    (fork-part-branch-start t)
     (λ c. search (needs, arith))
-    (λ c κs. let g = (c .before .before .before .before .before .before .before .before .before .before .before .before .before .before .before .before .before .before .before .before .before .before .before .before) .args in (omega (arith, (c .before .before .before .before .before .before .before .before .before .before .before .before .before .before .before .before .before .before .before .before .before .before .before .before) .pre .0, pos-of-ne-zero ((c .before .before .before .before .before .before .before .before .before .before .before .before .before .before .before .before .before .before .before .before .if1) .left)), ((c .before .before .before .before .before .before .before .before .before .before .before .before .before .before .before .before .before .before .before .before .before .before .before .before) .pre .1 .0, deeper (g .nest) (length (now (g .mem))) (g .m) (now (g .scratch)) ((c .before .before .before .before .before .before .before .before .before .copy) .last .1 .0) ((c .before .before .before .before .before .before .before .before .before .before .before .before .before .before .before .before .before .before .before .before .if1) .left) (as-long (g .nest) (g .m) (length (now (g .scratch))) (length (now (g .mem))) (length (now (g .scratch))) ((c .before .before .before .before .before .before .before .before .before .before .before .before .before .before .before .before .before .before .before .before .before .before .before .before) .pre .1 .0 .3) refl ((c .before .before .before .before .before .before .before .before .before .before .before .before .before .before .before .before .before .before .before .before .before .before .before .before) .pre .1 .1)) ((c .before .before .before .before .before .before .before .before .before .copy) .kept .1 .0) (sym ((c .before .before .before .before .before .before .before .before .before .before .before .before .before .before .before .before .before .before .before .before .before .before .before .before) .pre .1 .0 .3)))))
-    (λ c. (c .before .before .before .before .before .before .before .before .branch) .kept .1 .1 .1 .1 .1 .1 .0)
-    (λ c. ((c .before .before .before .before .before .scratch2) .given .1 ∙ (c .before .before .before .before .before .before .before .before .before .before .before .before .before .before .before .before .before .before .copy) .kept .1 .0))
-    (λ c. (c .before .before .before .before .before .before .before .before .branch) .kept .1 .1 .1 .1 .1 .1 .1 .1 .0)
-    (λ c. let g = (c .before .before .before .before .before .before .before .before .before .before .before .before .before .before .before .before .before .before .before .before .before .before .before .before .before .before .before .before .before .before .before .before .before) .args in refused₀ (g .k) (g .m) (g .limit) (g .nest) (g .from .node) (g .from .nodes) (g .from .used) (g .from .regs) (now (g .mem)) (now (g .table)) ((c .before .before .before .before .before .before .before .before .before .before .before .before .before .before .before .before .before .before .before .before .before .before .before .before .before .before .before .before .before .if1) .left) (sym ((c .before .before .before .before .before .before .before .before .before .before .before .before .before .before .before .before .before .before .before .before .before .before .before .before .before .before .before .before .opening) .ensures) ∙ (c .before .before .before .before .before .before .before .before .before .before .before .before .before .before .before .before .before .before .before .before .before .before .before .before .before .before .before .if2) .left) ((c .before .before .before .before .before .before .before .before .branch) .result) ((c .before .before .before .before .before .before .before .before .branch) .last .1 .1 .1 .1 .1 .1 .1 .1 .0) ((c .before .before .before .before .before .before .before .before .branch) .last .1 .1 .1 .1 .1 .1 .0) _ (from-begin (g .k) (g .m) (g .limit) (g .nest - 1) true (now (g .mem)) (now (g .table)) ((c .before .before .before .before .before .before .before .before .before .before .before .before .enter) .result) (entered (g .from .regs) (coinIn (g .from .regs) (now (g .mem))) 0) (g .from .used + 1) (g .from .nodes + 2) (g .from .nodes + 1) ((c .before .before .before .before .before .before .before .before .branch) .result) ((c .before .before .before .before .before .before .before .before .branch) .last .1 .1 .1 .1 .1 .1 .1 .1 .0) ((c .before .before .before .before .before .before .before .before .branch) .last .1 .1 .1 .1 .1 .1 .0) ((c .before .before .before .before .before .before .before .before .before .before .before .before .enter) .ensures ∙ ap (λ (i : ℕ). walkedAt (entered (g .from .regs) i 0) (g .from .used + 1) 0 (g .from .nodes + 2) (g .from .nodes + 1)) ((c .before .before .before .before .before .before .before .before .before .before .before .before .before .before .before .before .before .before .before .before .before .before .before .coin-at) .ensures)) ((c .before .before .before .before .before .before .before .before .branch) .ensures)) ((c .if3) .taken))
-    (λ c κs. (c .before .before .before .before .before .before .before .before .before .branch) .kept .1 .1 .1 .1 .1 .1 .0 ∙ (c .before .before .before .before .before .before .before .before .before .before .before .before .before .before .before .before .before .before .before .before .before .before .before .before .before .before .before .before .before .before .before .before .before .before) .pre .1 .0 .3)
+    (fork-branch-requires t)
+    (λ c. let branch′ = c .before .before .before .before .before .before .before .before in branch′ .branch .kept .1 .1 .1 .1 .1 .1 .0)
+    (fork-same-length-2 t)
+    (λ c. let branch′ = c .before .before .before .before .before .before .before .before in branch′ .branch .kept .1 .1 .1 .1 .1 .1 .1 .1 .0)
+    (fork-returns-3 t)
+    (fork-closing-requires t)
     (λ c κs. search needs)
-    (λ c. (c .before .before .before .before .before .before .before .before .before .before .before .before .branch) .kept .1 .1 .1 .1 .1 .1 .0)
-    (λ c. ((c .before .before .before .before .before .before .before .before .before .scratch2) .given .1 ∙ (c .before .before .before .before .before .before .before .before .before .before .before .before .before .before .before .before .before .before .before .before .before .before .copy) .kept .1 .0))
-    (λ c. (c .before .before .before .before .before .before .before .before .before .before .before .before .branch) .kept .1 .1 .1 .1 .1 .1 .1 .1 .0)
+    (fork-same-length-4 t)
+    (fork-same-length-5 t)
+    (fork-same-length-6 t)
     (fork-returns-4 t)
-    (λ c κs. let g = (c .before .before .before .before .before .before .before .before .before .before .before .before .before .before .before .before .before .before .before .before .before .before .before .before .before .before .before .before .before .before .before .before .before .before .before .before .before .before) .args in omega (arith, fits (g .nest) (length (now (g .mem))) (length (now (g .scratch))) ((c .before .before .before .before .before .before .before .before .before .before .before .before .before .before .before .before .before .before .before .before .before .before .before .before .before .before .before .before .before .before .before .before .before .before .if1) .left) (as-long (g .nest) (g .m) (length (now (g .scratch))) (length (now (g .mem))) (length (now (g .scratch))) ((c .before .before .before .before .before .before .before .before .before .before .before .before .before .before .before .before .before .before .before .before .before .before .before .before .before .before .before .before .before .before .before .before .before .before .before .before .before .before) .pre .1 .0 .3) refl ((c .before .before .before .before .before .before .before .before .before .before .before .before .before .before .before .before .before .before .before .before .before .before .before .before .before .before .before .before .before .before .before .before .before .before .before .before .before .before) .pre .1 .1)), ((c .before .before .before .before .before .before .before .before .before .before .scratch2) .given .1 ∙ (c .before .before .before .before .before .before .before .before .before .before .before .before .before .before .before .before .before .before .before .before .before .before .before .copy) .kept .1 .0), (c .before .before .before .before .before .before .before .before .before .before .before .before .before .branch) .kept .1 .1 .1 .1 .1 .1 .0))
-    (λ c. pos-of-ne-zero ((c .before .before .before .before .before .before .before .before .before .before .before .before .before .before .before .before .before .before .before .before .before .before .before .before .before .before .before .before .before .before .before .before .before .before .before .before .before .before .before .if1) .left))
-    (λ c. let g = (c .before .before .before .before .before .before .before .before .before .before .before .before .before .before .before .before .before .before .before .before .before .before .before .before .before .before .before .before .before .before .before .before .before .before .before .before .before .before .before .before .before .before .before .before) .args in record { fits = omega (arith, shut-below (g .k) (g .m) (g .limit) (coinIn (g .from .regs) (now (g .mem))) ((c .before .before .before .before .before .before .before .before .before .before .before .before .before .before .before .before .before .before .before .branch) .result .used) ((c .before .before .before .before .before .before .before .before .before .before .before .before .before .before .before .before .before .before .before .branch) .result .regs) ((c .before .before .before .before .before .before .before .before .before .before .before .before .before .before .before .before .before .before .before .branch) .last .1 .1 .1 .1 .1 .1 .0) (sym ((c .before .before .before .before .before .before .before .before .before .closing) .ensures ∙ ap (λ (i : ℕ). closingOf (g .k) (g .m) (g .limit) i ((c .before .before .before .before .before .before .before .before .before .before .before .before .before .before .before .before .before .before .before .branch) .result .used) ((c .before .before .before .before .before .before .before .before .before .before .before .before .before .before .before .before .before .before .before .branch) .result .regs) ((c .before .before .before .before .before .before .before .before .before .before .before .before .before .before .before .before .before .before .before .branch) .last .1 .1 .1 .1 .1 .1 .0)) ((c .before .before .before .before .before .before .before .before .before .before .before .before .before .before .before .before .before .before .before .before .before .before .before .before .before .before .before .before .before .before .before .before .before .before .coin-at) .ensures)) ∙ (c .before .before .before .before .before .before .before .before .if4) .left), (c .before .before .before .before .before .before .before .before .before .before .before .before .before .before .before .before .before .before .before .before .before .before .before .before .before .before .before .before .before .before .before .before .before .before .before .before .before .before .before .before .before .before .before .before) .fits .limit) })
-    (λ c. let g = (c .before .before .before .before .before .before .before .before .before .before .before .before .before .before .before .before .before .before .before .before .before .before .before .before .before .before .before .before .before .before .before .before .before .before .before .before .before .before .before .before .before .before .before .before .before) .args in record { fits = omega (arith, opened (g .limit) (g .from .nodes) (g .from .used) (sym ((c .before .before .before .before .before .before .before .before .before .before .before .before .before .before .before .before .before .before .before .before .before .before .before .before .before .before .before .before .before .before .before .before .before .before .before .before .before .before .before .before .opening) .ensures) ∙ (c .before .before .before .before .before .before .before .before .before .before .before .before .before .before .before .before .before .before .before .before .before .before .before .before .before .before .before .before .before .before .before .before .before .before .before .before .before .before .before .if2) .left), (c .before .before .before .before .before .before .before .before .before .before .before .before .before .before .before .before .before .before .before .before .before .before .before .before .before .before .before .before .before .before .before .before .before .before .before .before .before .before .before .before .before .before .before .before .before) .fits .limit) })
+    (fork-exchange-requires t)
+    (fork-sub-branch-3 t)
+    (fork-add-enter-4 t)
+    (fork-add-enter-5 t)
     (λ c κs. search needs)
-    (λ c. record { fits = omega (arith, (c .before .before .before .before .before .before .before .before .before .before .before .before .before .before .before .before .before .before .before .before .before .before .before .before .before .before .before .before .before .before .before .before .before .before .before .before .before .before .before .before .before .before .before .before .before .before .before) .good .1 .1 .1 .1 .1 .0 .1) })
-    (λ c. let g = (c .before .before .before .before .before .before .before .before .before .before .before .before .before .before .before .before .before .before .before .before .before .before .before .before .before .before .before .before .before .before .before .before .before .before .before .before .before .before .before .before .before .before .before .before .before .before .before) .args in omega (arith, fits (g .nest) (length (now (g .mem))) (length (now (g .scratch))) ((c .before .before .before .before .before .before .before .before .before .before .before .before .before .before .before .before .before .before .before .before .before .before .before .before .before .before .before .before .before .before .before .before .before .before .before .before .before .before .before .before .before .before .before .if1) .left) (as-long (g .nest) (g .m) (length (now (g .scratch))) (length (now (g .mem))) (length (now (g .scratch))) ((c .before .before .before .before .before .before .before .before .before .before .before .before .before .before .before .before .before .before .before .before .before .before .before .before .before .before .before .before .before .before .before .before .before .before .before .before .before .before .before .before .before .before .before .before .before .before .before) .pre .1 .0 .3) refl ((c .before .before .before .before .before .before .before .before .before .before .before .before .before .before .before .before .before .before .before .before .before .before .before .before .before .before .before .before .before .before .before .before .before .before .before .before .before .before .before .before .before .before .before .before .before .before .before) .pre .1 .1)), ((c .before .before .before .before .before .before .before .before .exchange) .kept .1 .0 ∙ ((c .before .before .before .before .before .before .before .before .before .before .before .before .before .before .before .before .before .before .before .scratch2) .given .1 ∙ (c .before .before .before .before .before .before .before .before .before .before .before .before .before .before .before .before .before .before .before .before .before .before .before .before .before .before .before .before .before .before .before .before .copy) .kept .1 .0))))
-    (λ c. let g = (c .before .before .before .before .before .before .before .before .before .before .before .before .before .before .before .before .before .before .before .before .before .before .before .before .before .before .before .before .before .before .before .before .before .before .before .before .before .before .before .before .before .before .before .before .before .before .before) .args in omega (arith, fits (g .nest) (length (now (g .mem))) (length (now (g .scratch))) ((c .before .before .before .before .before .before .before .before .before .before .before .before .before .before .before .before .before .before .before .before .before .before .before .before .before .before .before .before .before .before .before .before .before .before .before .before .before .before .before .before .before .before .before .if1) .left) (as-long (g .nest) (g .m) (length (now (g .scratch))) (length (now (g .mem))) (length (now (g .scratch))) ((c .before .before .before .before .before .before .before .before .before .before .before .before .before .before .before .before .before .before .before .before .before .before .before .before .before .before .before .before .before .before .before .before .before .before .before .before .before .before .before .before .before .before .before .before .before .before .before) .pre .1 .0 .3) refl ((c .before .before .before .before .before .before .before .before .before .before .before .before .before .before .before .before .before .before .before .before .before .before .before .before .before .before .before .before .before .before .before .before .before .before .before .before .before .before .before .before .before .before .before .before .before .before .before) .pre .1 .1)), ((c .before .before .before .before .before .before .before .before .exchange) .kept .1 .0 ∙ ((c .before .before .before .before .before .before .before .before .before .before .before .before .before .before .before .before .before .before .before .scratch2) .given .1 ∙ (c .before .before .before .before .before .before .before .before .before .before .before .before .before .before .before .before .before .before .before .before .before .before .before .before .before .before .before .before .before .before .before .before .copy) .kept .1 .0))))
+    (fork-mul-branch-2 t)
+    (fork-sub-branch-4 t)
+    (fork-part-branch-start-2 t)
     (λ c. search (needs, arith))
-    (λ c κs. let g = (c .before .before .before .before .before .before .before .before .before .before .before .before .before .before .before .before .before .before .before .before .before .before .before .before .before .before .before .before .before .before .before .before .before .before .before .before .before .before .before .before .before .before .before .before .before .before .before .before .before) .args in (omega (arith, (c .before .before .before .before .before .before .before .before .before .before .before .before .before .before .before .before .before .before .before .before .before .before .before .before .before .before .before .before .before .before .before .before .before .before .before .before .before .before .before .before .before .before .before .before .before .before .before .before .before) .pre .0, pos-of-ne-zero ((c .before .before .before .before .before .before .before .before .before .before .before .before .before .before .before .before .before .before .before .before .before .before .before .before .before .before .before .before .before .before .before .before .before .before .before .before .before .before .before .before .before .before .before .before .before .if1) .left)), (sized _ _ _ _ (((c .before .before .before .before .before .before .before .before .before .before .exchange) .kept .0 ∙ (c .before .before .before .before .before .before .before .before .before .before .before .before .before .before .before .before .before .before .before .before .before .before .before .before .branch) .kept .1 .1 .1 .1 .1 .1 .0)) ((c .before .before .before .before .before .before .before .before .before .before .before .before .before .before .before .before .before .before .before .before .before .before .before .before .before .before .before .before .before .before .before .before .before .before .before .before .before .before .before .before .before .before .before .before .before .before .before .before .before) .pre .1 .0), deeper (g .nest) (length (now (g .mem))) (g .m) (now (g .scratch)) ((c .before .before .before .before .before .before .before .before .before .before .exchange) .last .1 .0) ((c .before .before .before .before .before .before .before .before .before .before .before .before .before .before .before .before .before .before .before .before .before .before .before .before .before .before .before .before .before .before .before .before .before .before .before .before .before .before .before .before .before .before .before .before .before .if1) .left) (as-long (g .nest) (g .m) (length (now (g .scratch))) (length (now (g .mem))) (length (now (g .scratch))) ((c .before .before .before .before .before .before .before .before .before .before .before .before .before .before .before .before .before .before .before .before .before .before .before .before .before .before .before .before .before .before .before .before .before .before .before .before .before .before .before .before .before .before .before .before .before .before .before .before .before) .pre .1 .0 .3) refl ((c .before .before .before .before .before .before .before .before .before .before .before .before .before .before .before .before .before .before .before .before .before .before .before .before .before .before .before .before .before .before .before .before .before .before .before .before .before .before .before .before .before .before .before .before .before .before .before .before .before) .pre .1 .1)) (((c .before .before .before .before .before .before .before .before .before .before .exchange) .kept .1 .0 ∙ ((c .before .before .before .before .before .before .before .before .before .before .before .before .before .before .before .before .before .before .before .before .before .scratch2) .given .1 ∙ (c .before .before .before .before .before .before .before .before .before .before .before .before .before .before .before .before .before .before .before .before .before .before .before .before .before .before .before .before .before .before .before .before .before .before .copy) .kept .1 .0))) (sym ((c .before .before .before .before .before .before .before .before .before .before .before .before .before .before .before .before .before .before .before .before .before .before .before .before .before .before .before .before .before .before .before .before .before .before .before .before .before .before .before .before .before .before .before .before .before .before .before .before .before) .pre .1 .0 .3)))))
-    (λ c. ((c .before .before .before .before .before .before .before .before .branch2) .kept .1 .1 .1 .1 .1 .1 .0 ∙ ((c .before .before .before .before .before .before .before .before .before .before .before .before .before .before .before .before .before .before .before .exchange) .kept .0 ∙ (c .before .before .before .before .before .before .before .before .before .before .before .before .before .before .before .before .before .before .before .before .before .before .before .before .before .before .before .before .before .before .before .before .before .branch) .kept .1 .1 .1 .1 .1 .1 .0)))
-    (λ c. ((c .before .before .before .before .before .scratch4) .given .1 ∙ ((c .before .before .before .before .before .before .before .before .before .before .before .before .before .before .before .before .before .before .before .exchange) .kept .1 .0 ∙ ((c .before .before .before .before .before .before .before .before .before .before .before .before .before .before .before .before .before .before .before .before .before .before .before .before .before .before .before .before .before .before .scratch2) .given .1 ∙ (c .before .before .before .before .before .before .before .before .before .before .before .before .before .before .before .before .before .before .before .before .before .before .before .before .before .before .before .before .before .before .before .before .before .before .before .before .before .before .before .before .before .before .before .copy) .kept .1 .0))))
-    (λ c. ((c .before .before .before .before .before .before .before .before .branch2) .kept .1 .1 .1 .1 .1 .1 .1 .1 .0 ∙ (c .before .before .before .before .before .before .before .before .before .before .before .before .before .before .before .before .before .before .before .before .before .before .before .before .before .before .before .before .before .before .before .before .before .branch) .kept .1 .1 .1 .1 .1 .1 .1 .1 .0))
+    (fork-branch-requires-2 t)
+    (fork-same-length-7 t)
+    (fork-same-length-8 t)
+    (fork-same-length-9 t)
     (fork-returns-5 t)
-    (λ c κs. let g = (c .before .before .before .before .before .before .before .before .before .before .before .before .before .before .before .before .before .before .before .before .before .before .before .before .before .before .before .before .before .before .before .before .before .before .before .before .before .before .before .before .before .before .before .before .before .before .before .before .before .before .before .before .before .before .before .before .before .before .before .before) .args in omega (arith, fits (g .nest) (length (now (g .mem))) (length (now (g .scratch))) ((c .before .before .before .before .before .before .before .before .before .before .before .before .before .before .before .before .before .before .before .before .before .before .before .before .before .before .before .before .before .before .before .before .before .before .before .before .before .before .before .before .before .before .before .before .before .before .before .before .before .before .before .before .before .before .before .before .if1) .left) (as-long (g .nest) (g .m) (length (now (g .scratch))) (length (now (g .mem))) (length (now (g .scratch))) ((c .before .before .before .before .before .before .before .before .before .before .before .before .before .before .before .before .before .before .before .before .before .before .before .before .before .before .before .before .before .before .before .before .before .before .before .before .before .before .before .before .before .before .before .before .before .before .before .before .before .before .before .before .before .before .before .before .before .before .before .before) .pre .1 .0 .3) refl ((c .before .before .before .before .before .before .before .before .before .before .before .before .before .before .before .before .before .before .before .before .before .before .before .before .before .before .before .before .before .before .before .before .before .before .before .before .before .before .before .before .before .before .before .before .before .before .before .before .before .before .before .before .before .before .before .before .before .before .before .before) .pre .1 .1)), ((c .before .before .before .before .before .before .before .scratch4) .given .1 ∙ ((c .before .before .before .before .before .before .before .before .before .before .before .before .before .before .before .before .before .before .before .before .before .exchange) .kept .1 .0 ∙ ((c .before .before .before .before .before .before .before .before .before .before .before .before .before .before .before .before .before .before .before .before .before .before .before .before .before .before .before .before .before .before .before .before .scratch2) .given .1 ∙ (c .before .before .before .before .before .before .before .before .before .before .before .before .before .before .before .before .before .before .before .before .before .before .before .before .before .before .before .before .before .before .before .before .before .before .before .before .before .before .before .before .before .before .before .before .before .copy) .kept .1 .0))), ((c .before .before .before .before .before .before .before .before .before .before .branch2) .kept .1 .1 .1 .1 .1 .1 .0 ∙ ((c .before .before .before .before .before .before .before .before .before .before .before .before .before .before .before .before .before .before .before .before .before .exchange) .kept .0 ∙ (c .before .before .before .before .before .before .before .before .before .before .before .before .before .before .before .before .before .before .before .before .before .before .before .before .before .before .before .before .before .before .before .before .before .before .before .branch) .kept .1 .1 .1 .1 .1 .1 .0))))
-    (λ c κs. ((c .before .before .before .before .before .before .before .before .before .before .before .before .branch2) .kept .1 .1 .1 .1 .1 .1 .0 ∙ ((c .before .before .before .before .before .before .before .before .before .before .before .before .before .before .before .before .before .before .before .before .before .before .before .exchange) .kept .0 ∙ (c .before .before .before .before .before .before .before .before .before .before .before .before .before .before .before .before .before .before .before .before .before .before .before .before .before .before .before .before .before .before .before .before .before .before .before .before .before .branch) .kept .1 .1 .1 .1 .1 .1 .0)) ∙ (c .before .before .before .before .before .before .before .before .before .before .before .before .before .before .before .before .before .before .before .before .before .before .before .before .before .before .before .before .before .before .before .before .before .before .before .before .before .before .before .before .before .before .before .before .before .before .before .before .before .before .before .before .before .before .before .before .before .before .before .before .before .before) .pre .1 .0 .3)
+    (fork-agree-requires t)
+    (fork-meeting-requires t)
     (λ c κs. search needs)
-    (λ c. ((c .before .before .before .before .before .before .before .before .before .before .before .before .before .before .before .branch2) .kept .1 .1 .1 .1 .1 .1 .0 ∙ ((c .before .before .before .before .before .before .before .before .before .before .before .before .before .before .before .before .before .before .before .before .before .before .before .before .before .before .exchange) .kept .0 ∙ (c .before .before .before .before .before .before .before .before .before .before .before .before .before .before .before .before .before .before .before .before .before .before .before .before .before .before .before .before .before .before .before .before .before .before .before .before .before .before .before .before .branch) .kept .1 .1 .1 .1 .1 .1 .0)))
-    (λ c. ((c .before .before .before .before .before .before .before .before .before .before .before .before .scratch4) .given .1 ∙ ((c .before .before .before .before .before .before .before .before .before .before .before .before .before .before .before .before .before .before .before .before .before .before .before .before .before .before .exchange) .kept .1 .0 ∙ ((c .before .before .before .before .before .before .before .before .before .before .before .before .before .before .before .before .before .before .before .before .before .before .before .before .before .before .before .before .before .before .before .before .before .before .before .before .before .scratch2) .given .1 ∙ (c .before .before .before .before .before .before .before .before .before .before .before .before .before .before .before .before .before .before .before .before .before .before .before .before .before .before .before .before .before .before .before .before .before .before .before .before .before .before .before .before .before .before .before .before .before .before .before .before .before .before .copy) .kept .1 .0))))
-    (λ c. ((c .before .before .before .before .before .before .before .before .before .before .before .before .before .before .before .branch2) .kept .1 .1 .1 .1 .1 .1 .1 .1 .0 ∙ (c .before .before .before .before .before .before .before .before .before .before .before .before .before .before .before .before .before .before .before .before .before .before .before .before .before .before .before .before .before .before .before .before .before .before .before .before .before .before .before .before .branch) .kept .1 .1 .1 .1 .1 .1 .1 .1 .0))
+    (fork-same-length-10 t)
+    (fork-same-length-11 t)
+    (fork-same-length-12 t)
     (fork-returns-6 t)
     (λ c κs. search needs)
     (fork-join-requires t)
-    (λ c. ((c .before .before .before .before .before .before .before .before .before .before .before .before .before .before .before .before .before .before .before .branch2) .kept .1 .1 .1 .1 .1 .1 .0 ∙ ((c .before .before .before .before .before .before .before .before .before .before .before .before .before .before .before .before .before .before .before .before .before .before .before .before .before .before .before .before .before .before .exchange) .kept .0 ∙ (c .before .before .before .before .before .before .before .before .before .before .before .before .before .before .before .before .before .before .before .before .before .before .before .before .before .before .before .before .before .before .before .before .before .before .before .before .before .before .before .before .before .before .before .before .branch) .kept .1 .1 .1 .1 .1 .1 .0)))
-    (λ c. ((c .before .before .before .before .before .before .before .before .before .before .before .before .before .before .before .before .scratch4) .given .1 ∙ ((c .before .before .before .before .before .before .before .before .before .before .before .before .before .before .before .before .before .before .before .before .before .before .before .before .before .before .before .before .before .before .exchange) .kept .1 .0 ∙ ((c .before .before .before .before .before .before .before .before .before .before .before .before .before .before .before .before .before .before .before .before .before .before .before .before .before .before .before .before .before .before .before .before .before .before .before .before .before .before .before .before .before .scratch2) .given .1 ∙ (c .before .before .before .before .before .before .before .before .before .before .before .before .before .before .before .before .before .before .before .before .before .before .before .before .before .before .before .before .before .before .before .before .before .before .before .before .before .before .before .before .before .before .before .before .before .before .before .before .before .before .before .before .before .before .copy) .kept .1 .0))))
-    (λ c. (c .before .before .join) .kept .1 .1 .1 .1 .0 ∙ ((c .before .before .before .before .before .before .before .before .before .before .before .before .before .before .before .before .before .before .before .branch2) .kept .1 .1 .1 .1 .1 .1 .1 .1 .0 ∙ (c .before .before .before .before .before .before .before .before .before .before .before .before .before .before .before .before .before .before .before .before .before .before .before .before .before .before .before .before .before .before .before .before .before .before .before .before .before .before .before .before .before .before .before .before .branch) .kept .1 .1 .1 .1 .1 .1 .1 .1 .0))
+    (fork-same-length-13 t)
+    (fork-same-length-14 t)
+    (fork-same-length-15 t)
     (fork-returns-7 t)
