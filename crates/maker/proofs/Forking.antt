@@ -74,7 +74,19 @@ and-true false = refl
 pub same-both : (k m : ℕ) (l z l′ z′ : List ℕ) → sameView (viewAt k m l z) (viewAt k m l′ z′) ≡ (sameWords l l′ && sameWords z z′)
 same-both k m l z l′ z′ = rw (eq-eqb k k refl, eq-eqb m m refl, and-true (sameWords z z′))
 
-module _ (k w limit nest : ℕ) (v n u : ℕ) (s m₀ t : List ℕ) where
+module _ (k w limit nest : ℕ) (from : Walked) (m₀ t : List ℕ) where
+  abbrev v : ℕ
+  v = from .node
+
+  abbrev n : ℕ
+  n = from .nodes
+
+  abbrev u : ℕ
+  u = from .used
+
+  abbrev s : List ℕ
+  s = from .regs
+
   abbrev deep : ℕ → ℕ → View → Outcome View
   deep n u x = branchAt machine limit (nest - 1) true n u x
 
