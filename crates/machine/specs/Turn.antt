@@ -100,9 +100,12 @@ landed Forward s (Does e) =
     refuse (isReady (s′ .at) && starts (s .at) (s .memory) (newPc Forward s′)) 18 (Does e)
 landed Back s a = a
 
--- what a turn would do, or why it is refused
+-- what a turn would do, or why it is refused, over what the word's own attempt is
+abbrev pub plannedBy : (View → Attempt) → List ℕ → Direction → Bool → View → Attempt
+plannedBy own t d last s = let s′ = from d s in judged t d last (pc s) s′ (landed d s′ (own s′))
+
 abbrev pub planned : List ℕ → Direction → Bool → View → Attempt
-planned t d last s = let s′ = from d s in judged t d last (pc s) s′ (landed d s′ (executed t d s′))
+planned t d last s = plannedBy (executed t d) t d last s
 
 -- the view after the turn, the old one where it is refused
 abbrev pub turned : Direction → Attempt → View → View

@@ -18,7 +18,7 @@ use Rattle.maker.specs.declared.Made.{Made}
 use Rattle.maker.specs.Making.{branchAt}
 use Rattle.maker.specs.Idle.{machine}
 use Rattle.maker.specs.Parts.{viewAt, Sized}
-use Rattle.maker.specs.Make.{mostWords, scratchWords, isReady, refusalOf, outcomeOf, madeAs, answerOf, drawnBy, MakePromise}
+use Rattle.maker.specs.Make.{mostWords, scratchWords, canBegin, refusalOf, outcomeOf, madeAs, answerOf, drawnBy, MakePromise}
 use Rattle.maker.proofs.Choices.{both-true}
 use Rattle.maker.proofs.Counts.{not-first}
 
@@ -42,7 +42,7 @@ shorter m l = omega (arith, length-take m l)
 pub ready : (r : Record) (mem table scratch : List ℕ) → refusalOf r mem table scratch ≡ 0 → Ready r mem table scratch
 unfolding badSizes inRange
 ready r mem table scratch e =
-    let w = not-first (wrongSizes r mem table) 9 (pick (isReady r mem table scratch) 0 22) e in
+    let w = not-first (wrongSizes r mem table) 9 (pick (canBegin r mem table scratch) 0 22) e in
     let q₀ : Bool = leb (r .m) (length (take (r .m) mem)) && leb (9 * r .n) (length (nodes (statusOf r) table)) in
     let p₃ : Bool = leb (r .m) 8192 && leb (r .n) 511 in
     let p₂ : Bool = leb (r .k) (r .m) && p₃ in

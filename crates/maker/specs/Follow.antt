@@ -10,17 +10,17 @@ use Rattle.step.specs.declared.Attempt.{Attempt}
 use Rattle.step.specs.declared.Attempt.the-variants.{Refused, Does}
 use Rattle.step.specs.View.{View, reg, withReg}
 use Rattle.step.specs.Step.{attempt}
-use Rattle.machine.specs.Turn.{pc, from, judged, landed, turned}
+use Rattle.machine.specs.Turn.{plannedBy, turned}
 use Rattle.maker.specs.declared.Kind.{Kind}
 use Rattle.maker.specs.declared.Kind.the-variants.{Plain, Opens, Closes}
 use Rattle.maker.specs.Idle.{opAt, kindOf}
 
--- what a turn forward would do, as `planned` has it, with the idle operation at pc
+-- what a turn forward would do, away from the last position, with the idle operation at pc
 abbrev pub idled : List ℕ → View → Attempt
 idled t s = attempt t Forward (opAt s) s
 
 abbrev pub plannedIdle : List ℕ → View → Attempt
-plannedIdle t s = let s′ = from Forward s in judged t Forward false (pc s) s′ (landed Forward s′ (idled t s′))
+plannedIdle t s = plannedBy (idled t) t Forward false s
 
 -- what is turned, and the words that the coin registers of the open qifs had, the innermost first
 pub record Walker : Type 0 where

@@ -28,8 +28,8 @@ scratchWords r = 16 * r .m
 
 -- ---- 22: pc at start, no table yet, no wait, and the table and the scratch long enough
 
-abbrev pub isReady : Record → List ℕ → List ℕ → List ℕ → Bool
-isReady r mem table scratch =
+abbrev pub canBegin : Record → List ℕ → List ℕ → List ℕ → Bool
+canBegin r mem table scratch =
     starts (statusOf r) (take (r .m) mem) (getD (r .regs) 0 0)
     && (eqb (r .n) 0
     && (eqb (r .qifw) 0
@@ -38,7 +38,7 @@ isReady r mem table scratch =
 
 -- 10 or 22, else 0
 abbrev pub refusalOf : Record → List ℕ → List ℕ → List ℕ → ℕ
-refusalOf r mem table scratch = pick (wrongSizes r mem table) 10 (pick (isReady r mem table scratch) 0 22)
+refusalOf r mem table scratch = pick (wrongSizes r mem table) 10 (pick (canBegin r mem table scratch) 0 22)
 
 -- ---- the walk: from node 1, the only one made, with no cycle used and a nesting of eight
 

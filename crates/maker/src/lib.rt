@@ -7,7 +7,7 @@ ghost use Rattle.machine.specs.Calls.{statusOf, wrongSizes};
 ghost use Rattle.maker.specs.Making.{branchAt};
 ghost use Rattle.maker.specs.Idle.{machine};
 ghost use Rattle.maker.specs.Parts.{viewAt, Sized};
-ghost use Rattle.maker.specs.Make.{isReady, refusalOf, madeAs, withTable, answerOf, drawnBy, MakePromise};
+ghost use Rattle.maker.specs.Make.{canBegin, refusalOf, madeAs, withTable, answerOf, drawnBy, MakePromise};
 
 mod copy;
 mod draw;
@@ -74,8 +74,8 @@ impl Made {
 }
 
 // pc is at start, there is no table yet and no wait, and what is lent is long enough.
-fn is_ready(r: Record, mem: &[u32], table: &[u32], scratch: &[u32]) -> bool
-    ensures { λ a. ⌜ a ≡ isReady r (now (mem .entry)) (now (table .entry)) (now (scratch .entry)) ⌝ }
+fn can_begin(r: Record, mem: &[u32], table: &[u32], scratch: &[u32]) -> bool
+    ensures { λ a. ⌜ a ≡ canBegin r (now (mem .entry)) (now (table .entry)) (now (scratch .entry)) ⌝ }
 {
     let regs = r.regs;
     let pc = word_of(&regs, 0);
@@ -88,8 +88,8 @@ fn is_ready(r: Record, mem: &[u32], table: &[u32], scratch: &[u32]) -> bool
 fn refusal_of(r: Record, mem: &[u32], table: &[u32], scratch: &[u32]) -> u32
     ensures { λ a. ⌜ a ≡ refusalOf r (now (mem .entry)) (now (table .entry)) (now (scratch .entry)) ⌝ }
 {
-    let ready = is_ready(r, mem, table, scratch);
-    word::choose(r.has_bad_sizes(mem, table), 10, word::choose(ready, 0, 22))
+    let begins = can_begin(r, mem, table, scratch);
+    word::choose(r.has_bad_sizes(mem, table), 10, word::choose(begins, 0, 22))
 }
 
 // The walk from node 1 over exactly M words of memory, which are left as they were, and a table of zeros; zeros

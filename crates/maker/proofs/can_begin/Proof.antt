@@ -1,9 +1,9 @@
 use borrow.Author.Needs.{needs}
-use Rattle.maker.proofs.is_ready.Statement.{statement}
-use Rattle.maker.proofs.is_ready.Tie as tie
+use Rattle.maker.proofs.can_begin.Statement.{statement}
+use Rattle.maker.proofs.can_begin.Tie as tie
 
-pub is-ready-spec : {M : Type 1} → statement M
-is-ready-spec =
+pub can-begin-spec : {M : Type 1} → statement M
+can-begin-spec =
     tie.close
     (tie.spec
     (λ c. search needs)
