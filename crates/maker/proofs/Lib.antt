@@ -21,3 +21,4 @@ pub mod Wholes
 pub mod Call
 pub mod Numbers
 pub mod Claims
+pub mod Rows

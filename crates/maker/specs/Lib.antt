@@ -6,3 +6,4 @@ pub mod Follow
 pub mod Parts
 pub mod Make
 pub mod Claims
+pub mod Rows
