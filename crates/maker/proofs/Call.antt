@@ -19,8 +19,8 @@ use Rattle.maker.specs.Making.{branchAt}
 use Rattle.maker.specs.Idle.{machine}
 use Rattle.maker.specs.Parts.{viewAt, Sized}
 use Rattle.maker.specs.Make.{mostWords, scratchWords, canBegin, refusalOf, outcomeOf, madeAs, answerOf, drawnBy, MakePromise}
-use Rattle.maker.proofs.Choices.{both-true}
-use Rattle.maker.proofs.Counts.{not-first}
+use Rattle.word.proofs.Words.{and-true}
+use Rattle.maker.proofs.Counts.{not-first, not-second}
 
 -- ---- what a start that is not refused gives
 
@@ -32,10 +32,6 @@ pub record Ready (r : Record) (mem table scratch : List ℕ) : Type 0 where
   pub nodes : 4599 ≤ length table
   pub room : 16 * r .m ≤ length scratch
 
-not-second : (x : Bool) (k : ℕ) → pick x 0 (suc k) ≡ 0 → x ≡ true
-not-second true k e = refl
-not-second false k e = absurd (omega (arith, e))
-
 shorter : (m : ℕ) (l : List ℕ) → length (take m l) ≤ length l
 shorter m l = omega (arith, length-take m l)
 
@@ -46,17 +42,17 @@ ready r mem table scratch e =
     let q₀ : Bool = leb (r .m) (length (take (r .m) mem)) && leb (9 * r .n) (length (nodes (statusOf r) table)) in
     let p₃ : Bool = leb (r .m) 8192 && leb (r .n) 511 in
     let p₂ : Bool = leb (r .k) (r .m) && p₃ in
-    let a = both-true (ltb 0 (r .k) && p₂) q₀ (not-false _ (w .0)) in
-    let b = both-true (ltb 0 (r .k)) p₂ (a .0) in
-    let c = both-true (leb (r .k) (r .m)) p₃ (b .1) in
-    let d = both-true (leb (r .m) 8192) (leb (r .n) 511) (c .1) in
-    let f = both-true (leb (r .m) (length (take (r .m) mem))) _ (a .1) in
+    let a = and-true (ltb 0 (r .k) && p₂) q₀ (not-false _ (w .0)) in
+    let b = and-true (ltb 0 (r .k)) p₂ (a .0) in
+    let c = and-true (leb (r .k) (r .m)) p₃ (b .1) in
+    let d = and-true (leb (r .m) 8192) (leb (r .n) 511) (c .1) in
+    let f = and-true (leb (r .m) (length (take (r .m) mem))) _ (a .1) in
     let r₄ : Bool = leb mostWords (length table) && leb (scratchWords r) (length scratch) in
     let r₃ : Bool = eqb (r .qifw) 0 && r₄ in
     let r₂ : Bool = eqb (r .n) 0 && r₃ in
-    let g = both-true (starts (statusOf r) (take (r .m) mem) (getD (r .regs) 0 0)) r₂ (not-second _ 21 (w .1)) in
-    let h = both-true (eqb (r .qifw) 0) r₄ (both-true (eqb (r .n) 0) r₃ (g .1) .1) in
-    let i = both-true (leb mostWords (length table)) (leb (scratchWords r) (length scratch)) (h .1) in
+    let g = and-true (starts (statusOf r) (take (r .m) mem) (getD (r .regs) 0 0)) r₂ (not-second _ 21 0 (w .1) .0) in
+    let h = and-true (eqb (r .qifw) 0) r₄ (and-true (eqb (r .n) 0) r₃ (g .1) .1) in
+    let i = and-true (leb mostWords (length table)) (leb (scratchWords r) (length scratch)) (h .1) in
     record {
       sizes = w .0;
       code = (ltb-true 0 (r .k) (b .0), leb-true (r .k) (r .m) (c .0), leb-true (r .m) 8192 (d .0));

@@ -9,6 +9,7 @@ use native.Mathlib.Nat.{suc-add}
 use lib.Dec.{eqb, leb, ltb}
 use borrow.Author.Tests.{le-leb, ne-eqb, eqb-true}
 use Rattle.word.specs.Word.{pick}
+use Rattle.word.proofs.Words.{and-true}
 use Rattle.step.specs.Table.{fc, lc, cf, cl, nx, pr, w, isNode, link, paired}
 use Rattle.maker.specs.Walk.{Walk, size, cycles, ending, forkSize, forkCycles, lack}
 use Rattle.maker.specs.Walk.Walk.{begin, step, fork}
@@ -36,21 +37,13 @@ Holds t N (fork p a b) v n =
     Holds t N p v n × Links t N (ending p v n) (n + size p) a b
     × Holds t N a (n + size p + 1) (n + size p + 2) × Holds t N b (n + size p + 2) (n + size p + 2 + size a)
 
-abbrev pub IsFalse : Bool → Type 0
-IsFalse true = ⊥
-IsFalse false = Unit {0}
-
-pub both-true : (x y : Bool) → (x && y) ≡ true → (x ≡ true) × (y ≡ true)
-both-true true y e = (refl, e)
-both-true false y e = absurd (subst IsFalse e tt)
-
 module _ (t : List ℕ) (N v f u g : ℕ) (e : paired t N v f u g ≡ true) where
   links : (eqb (link t N v f) u ≡ true) × (eqb (link t N u g) v ≡ true)
   unfolding paired
   links =
       let c = eqb (link t N v f) u in
       let d = eqb (link t N u g) v in
-      both-true c d (both-true (isNode N u) (c && d) (both-true (isNode N v) (isNode N u && (c && d)) e .1) .1)
+      and-true c d (and-true (isNode N u) (c && d) (and-true (isNode N v) (isNode N u && (c && d)) e .1) .1)
 
   there : link t N v f ≡ u
   there = eqb-true (link t N v f) u (links .0)

@@ -1,6 +1,6 @@
 -- The claims of a made table, of whatever the call answers. Assumes nothing.
 use mathlib.Core.Path.{_≡_, refl, sym, ap, ap₂, _∙_, subst}
-use mathlib.Core.Bool.{Bool, true, false}
+use mathlib.Core.Bool.{Bool, true, false, false≢true}
 use mathlib.Core.List.{List, [], _∷_, _++_}
 use Prim.Native.Nat.{ℕ, zero, suc, _+_, _-_, _*_, _<_, _≤_}
 use native.Mathlib.Omega.{arith}
@@ -150,10 +150,6 @@ numbered : (r : Record) (limit : ℕ) (mem : List ℕ) → Numbered (outcomeOf r
 unfolding outcomeOf
 numbered r limit mem = branch-numbered machine halt-is limit 8 false 1 0 _
 
-abbrev IsTrue : Bool → Type 0
-IsTrue true = Unit {0}
-IsTrue false = ⊥
-
 module _ {r : Record} {limit : ℕ} {mem table scratch : List ℕ} {a : Made} {mem′ table′ scratch′ : List ℕ}
     (m : MakePromise r limit mem table scratch a mem′ table′ scratch′) (ok : a .refusal ≡ 0) where
   -- what holds of every accepted outcome holds of what the call leaves
@@ -180,7 +176,7 @@ module _ {r : Record} {limit : ℕ} {mem table scratch : List ℕ} {a : Made} {m
       by-start : (b : Bool) → eqb (refusalOf r mem table scratch) 0 ≡ b → P a mem′ table′
       by-start true e =
           by-walk (ready r mem table scratch (eqb-true _ 0 e)) (outcomeOf r limit mem) refl (numbered r limit mem) (told true e .0) (told true e .1)
-      by-start false e = absurd (subst IsTrue (sym (ap (λ (i : ℕ). eqb i 0) (sym (ap (λ (x : Made). x .refusal) (told false e .0)) ∙ ok)) ∙ e) tt)
+      by-start false e = absurd (false≢true (sym e ∙ ap (λ (i : ℕ). eqb i 0) (sym (ap (λ (x : Made). x .refusal) (told false e .0)) ∙ ok)))
 
   choices : EveryChoice a mem′ table′
   choices = accepted EveryChoice λ p z e g. every r limit mem table p z e (g .code) (g .words) (g .wait)

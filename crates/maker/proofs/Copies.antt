@@ -1,6 +1,6 @@
 -- Words copied, exchanged and compared. Assumes nothing.
 use mathlib.Core.Path.{_≡_, refl, sym, ap, ap₂, _∙_, subst}
-use mathlib.Core.Bool.{Bool, true, false, _&&_}
+use mathlib.Core.Bool.{Bool, true, false, _&&_, false≢true}
 use mathlib.Core.List.{List, [], _∷_}
 use Prim.Native.Nat.{ℕ, _+_, _-_, _<_, _≤_}
 use borrow.Rule.Slice.PartMut.{putMid, take-put}
@@ -11,7 +11,7 @@ use lib.Dec.{eqb}
 use lib.ListN.{length, length-set, length-append, length-drop, getD, set, take, drop, length-take, take-append-drop, drop-of-length-le, List·getD-eq-default}
 use lib.ListN.{length, getD, set, take, length-set}
 use lib.Seq.{take-length, length-take-le, getD-set-same, getD-set-other, getD-take, ext-getD}
-use Rattle.maker.proofs.Choices.{both-true}
+use Rattle.word.proofs.Words.{and-true}
 use Rattle.maker.specs.Idle.{sameWords}
 use Rattle.step.specs.declared.Direction.the-variants.{Forward}
 use Rattle.step.specs.Step.{shifted}
@@ -97,17 +97,13 @@ unfolding sameWords
 same-self [] = refl
 same-self (x ∷ l) = rw (eq-eqb x x refl, same-self l)
 
-abbrev IsFalse : Bool → Type 0
-IsFalse true = ⊥
-IsFalse false = Unit {0}
-
 pub same-is : (k l : List ℕ) → sameWords k l ≡ true → k ≡ l
 unfolding sameWords
 same-is [] [] h = refl
-same-is [] (y ∷ l) h = absurd (subst IsFalse h tt)
-same-is (x ∷ k) [] h = absurd (subst IsFalse h tt)
+same-is [] (y ∷ l) h = absurd (false≢true h)
+same-is (x ∷ k) [] h = absurd (false≢true h)
 same-is (x ∷ k) (y ∷ l) h =
-    let q = both-true (eqb x y) (sameWords k l) h in ap₂ {C = List ℕ} (λ (a : ℕ) (b : List ℕ). a ∷ b) (eqb-true x y (q .0)) (same-is k l (q .1))
+    let q = and-true (eqb x y) (sameWords k l) h in ap₂ {C = List ℕ} (λ (a : ℕ) (b : List ℕ). a ∷ b) (eqb-true x y (q .0)) (same-is k l (q .1))
 
 pub differ : (k l : List ℕ) → ¬ (k ≡ l) → sameWords k l ≡ false
 differ k l h = go (sameWords k l) refl

@@ -45,7 +45,7 @@ pub not-first : (x : Bool) (k n : ℕ) → pick x (suc k) n ≡ 0 → (x ≡ fal
 not-first true k n e = absurd (omega (arith, e))
 not-first false k n e = (refl, e)
 
-not-second : (x : Bool) (k n : ℕ) → pick x n (suc k) ≡ 0 → (x ≡ true) × (n ≡ 0)
+pub not-second : (x : Bool) (k n : ℕ) → pick x n (suc k) ≡ 0 → (x ≡ true) × (n ≡ 0)
 not-second true k n e = (refl, e)
 not-second false k n e = absurd (omega (arith, e))
 

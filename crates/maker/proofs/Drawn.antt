@@ -1,7 +1,7 @@
 -- The table that a walk draws holds its links. No machine is mentioned. Assumes nothing.
 use mathlib.Core.Path.{_≡_, refl, sym, ap, _∙_, subst}
 use mathlib.Core.Logic.{_≢_}
-use mathlib.Core.Bool.{Bool, true, false, _&&_}
+use mathlib.Core.Bool.{Bool, true, false, _&&_, false≢true}
 use mathlib.Core.List.{List}
 use Prim.Native.Nat.{ℕ, zero, suc, _+_, _-_, _*_, _<_, _≤_}
 use native.Mathlib.Omega.{arith}
@@ -342,30 +342,23 @@ keeps (fork p a b) v n t u i hv hn hu h d k =
 pub isOpen : ℕ → Bool
 isOpen i = pick (eqb i 4) false (pick (eqb i 7) false (pick (eqb i 8) false true))
 
-abbrev IsTrue : Bool → Type 0
-IsTrue true = Unit {0}
-IsTrue false = ⊥
-
-true-no : true ≡ false → ⊥
-true-no q = subst IsTrue q tt
-
 not-closed : (i : ℕ) → isOpen i ≡ true → (i ≢ 4) × (i ≢ 7) × (i ≢ 8)
 unfolding isOpen
 not-closed i h = (
-  λ q. true-no (sym h ∙ ap (λ (j : ℕ). isOpen j) q),
-  λ q. true-no (sym h ∙ ap (λ (j : ℕ). isOpen j) q),
-  λ q. true-no (sym h ∙ ap (λ (j : ℕ). isOpen j) q),
+  λ q. false≢true (sym (ap (λ (j : ℕ). isOpen j) q) ∙ h),
+  λ q. false≢true (sym (ap (λ (j : ℕ). isOpen j) q) ∙ h),
+  λ q. false≢true (sym (ap (λ (j : ℕ). isOpen j) q) ∙ h),
 )
 
 not-open : (i : ℕ) → isOpen i ≡ false → (i ≢ 0) × (i ≢ 1) × (i ≢ 2) × (i ≢ 3) × (i ≢ 6) × (i ≢ 5)
 unfolding isOpen
 not-open i h = (
-  λ q. true-no (sym (ap (λ (j : ℕ). isOpen j) q) ∙ h),
-  λ q. true-no (sym (ap (λ (j : ℕ). isOpen j) q) ∙ h),
-  λ q. true-no (sym (ap (λ (j : ℕ). isOpen j) q) ∙ h),
-  λ q. true-no (sym (ap (λ (j : ℕ). isOpen j) q) ∙ h),
-  λ q. true-no (sym (ap (λ (j : ℕ). isOpen j) q) ∙ h),
-  λ q. true-no (sym (ap (λ (j : ℕ). isOpen j) q) ∙ h),
+  λ q. false≢true (sym h ∙ ap (λ (j : ℕ). isOpen j) q),
+  λ q. false≢true (sym h ∙ ap (λ (j : ℕ). isOpen j) q),
+  λ q. false≢true (sym h ∙ ap (λ (j : ℕ). isOpen j) q),
+  λ q. false≢true (sym h ∙ ap (λ (j : ℕ). isOpen j) q),
+  λ q. false≢true (sym h ∙ ap (λ (j : ℕ). isOpen j) q),
+  λ q. false≢true (sym h ∙ ap (λ (j : ℕ). isOpen j) q),
 )
 
 -- ---- a table that agrees on the words of a walk holds its links too

@@ -10,8 +10,8 @@ use lib.ListN.{getD}
 use borrow.Author.Tests.{leb-false, ltb-false, eq-eqb}
 use Rattle.word.specs.Word.{pick}
 use Rattle.step.specs.View.{View}
-use Rattle.maker.proofs.Counts.{cycles-used, not-first}
-use Rattle.maker.proofs.Choices.{both-true}
+use Rattle.maker.proofs.Counts.{cycles-used, not-first, not-second}
+use Rattle.word.proofs.Words.{and-true}
 use Rattle.maker.specs.Walk.{Walk, size, used, cycles, ending, linked, drawn, forkSize, forkUsed, forkCycles, forkLinked, forkDrawn, lack}
 use Rattle.maker.specs.Making.{Outcome, Forks, unless, byOutcome, opening, closing, meeting, forkBy, forkAt, branchAt}
 use Rattle.maker.specs.Making.Outcome.{refused, ended}
@@ -51,10 +51,6 @@ shut-below k m limit a u l z e =
     let x = not-first (lands (viewAt k m l z)) 17 (pick (leb limit u) 23 (pick (heldOf a 0 l z) 0 24)) e in
     leb-false limit u (not-first (leb limit u) 22 (pick (heldOf a 0 l z) 0 24) (x .1) .0)
 
-not-second : (x : Bool) (k n : ℕ) → pick x n (suc k) ≡ 0 → (x ≡ true) × (n ≡ 0)
-not-second true k n e = (refl, e)
-not-second false k n e = absurd (omega (arith, e))
-
 -- the limit, the nodes, and that the states are the same
 pub met-below : (k m limit a n u : ℕ) (l z : List ℕ) (b : Bool) → meetingOf k m limit a n u l z b ≡ 0 → (u < limit) × (n ≤ 510) × (b ≡ true)
 unfolding meetingOf
@@ -67,12 +63,12 @@ met-below k m limit a n u l z b e =
     (leb-false limit u (x .0), ltb-false 510 n (y .0), not-second b 23 0 (w .1) .0)
 
 -- states that differ at most in registers and memory
-and-true : (a : Bool) → (a && true) ≡ a
-and-true true = refl
-and-true false = refl
+and-is : (a : Bool) → (a && true) ≡ a
+and-is true = refl
+and-is false = refl
 
 pub same-both : (k m : ℕ) (l z l′ z′ : List ℕ) → sameView (viewAt k m l z) (viewAt k m l′ z′) ≡ (sameWords l l′ && sameWords z z′)
-same-both k m l z l′ z′ = rw (eq-eqb k k refl, eq-eqb m m refl, and-true (sameWords z z′))
+same-both k m l z l′ z′ = rw (eq-eqb k k refl, eq-eqb m m refl, and-is (sameWords z z′))
 
 module _ (k w limit nest : ℕ) (from : Walked) (m₀ t : List ℕ) where
   abbrev v : ℕ
@@ -263,7 +259,7 @@ module _ (k w limit nest : ℕ) (from : Walked) (m₀ t : List ℕ) where
 
             same-memory : meetingOf k w limit c (b .nodes) (b .used) (b .regs) z₁ both ≡ 0 → z₀ ≡ z₁
             same-memory i =
-                same-is z₀ z₁ (both-true (sameWords (left (a .regs) c old) (left (b .regs) c old)) (sameWords z₀ z₁)
+                same-is z₀ z₁ (and-true (sameWords (left (a .regs) c old) (left (b .regs) c old)) (sameWords z₀ z₁)
                 (sym told ∙ met-below k w limit c (b .nodes) (b .used) (b .regs) z₁ both i .2) .1)
 
             -- both came to their fiq and meet: the answer x, with the table d; the memory is branch 1's, which is branch 0's

@@ -19,17 +19,19 @@ use Rattle.machine.specs.Turn.{pc, br, stride, isCode, starts, finishes}
 use Rattle.maker.specs.Walkable.{Look, Walkable}
 use Rattle.maker.specs.Walkable.Look.{halts, last, goes, forks, joins}
 use Rattle.maker.specs.Idle.{idleOp, opAt, kindOf, coinOf, coinAt, isRegister, sameWords, sameStatus, sameView, machine}
-use Rattle.maker.proofs.Choices.{Lawful, IsFalse, both-true}
+use Rattle.word.proofs.Words.{and-true}
+use Rattle.maker.proofs.Copies.{same-is}
+use Rattle.maker.proofs.Choices.{Lawful}
 use Rattle.maker.proofs.Looked.{AtQif, at-qif, is-qif}
 
 -- ---- a register that is neither pc nor br
 
 module _ (s : View) (a x : ℕ) (h : isRegister s a ≡ true) where
   above : 1 < a
-  above = ltb-true 1 a (both-true (ltb 1 a) (ltb a (length (s .regs))) h .0)
+  above = ltb-true 1 a (and-true (ltb 1 a) (ltb a (length (s .regs))) h .0)
 
   there : a < length (s .regs)
-  there = ltb-true a (length (s .regs)) (both-true (ltb 1 a) (ltb a (length (s .regs))) h .1)
+  there = ltb-true a (length (s .regs)) (and-true (ltb 1 a) (ltb a (length (s .regs))) h .1)
 
   pub pc-stays : pc (withReg s a x) ≡ pc s
   pc-stays = getD-set-other (s .regs) a 0 x 0 (omega (arith, above))
@@ -56,41 +58,32 @@ module _ (s : View) (a x : ℕ) (h : isRegister s a ≡ true) where
 
 -- ---- equal states
 
-words-are : (k l : List ℕ) → sameWords k l ≡ true → k ≡ l
-unfolding sameWords
-words-are [] [] e = refl
-words-are [] (y ∷ l) e = absurd (subst IsFalse e tt)
-words-are (x ∷ k) [] e = absurd (subst IsFalse e tt)
-words-are (x ∷ k) (y ∷ l) e =
-    let q = both-true (eqb x y) (sameWords k l) e in
-    ap₂ (λ (i : ℕ) (r : List ℕ). i ∷ r) (eqb-true x y (q .0)) (words-are k l (q .1))
-
 status-is : (x y : Status) → sameStatus x y ≡ true → x ≡ y
 status-is x y e =
     let p₃ : Bool = eqb (x .qifv) (y .qifv) && eqb (x .qifw) (y .qifw) in
     let p₂ : Bool = eqb (x .n) (y .n) && p₃ in
     let p₁ : Bool = eqb (x .m) (y .m) && p₂ in
-    let k = both-true (eqb (x .k) (y .k)) p₁ e in
-    let m = both-true (eqb (x .m) (y .m)) p₂ (k .1) in
-    let n = both-true (eqb (x .n) (y .n)) p₃ (m .1) in
-    let v = both-true (eqb (x .qifv) (y .qifv)) (eqb (x .qifw) (y .qifw)) (n .1) in
+    let k = and-true (eqb (x .k) (y .k)) p₁ e in
+    let m = and-true (eqb (x .m) (y .m)) p₂ (k .1) in
+    let n = and-true (eqb (x .n) (y .n)) p₃ (m .1) in
+    let v = and-true (eqb (x .qifv) (y .qifv)) (eqb (x .qifw) (y .qifw)) (n .1) in
     ap₂ (λ (i j : ℕ). record { qifv = i; qifw = j; k = x .k; m = x .m; n = x .n }) (eqb-true _ _ (v .0)) (eqb-true _ _ (v .1))
     ∙ (ap₂ (λ (i j : ℕ). record { qifv = y .qifv; qifw = y .qifw; k = i; m = j; n = x .n }) (eqb-true _ _ (k .0)) (eqb-true _ _ (m .0))
     ∙ ap (λ (i : ℕ). record { qifv = y .qifv; qifw = y .qifw; k = y .k; m = y .m; n = i }) (eqb-true _ _ (n .0)))
 
 views-are : (s z : View) → sameView s z ≡ true → s ≡ z
 views-are s z e =
-    let p = both-true (sameWords (s .regs) (z .regs)) (sameWords (s .memory) (z .memory) && sameStatus (s .at) (z .at)) e in
-    let q = both-true (sameWords (s .memory) (z .memory)) (sameStatus (s .at) (z .at)) (p .1) in
+    let p = and-true (sameWords (s .regs) (z .regs)) (sameWords (s .memory) (z .memory) && sameStatus (s .at) (z .at)) e in
+    let q = and-true (sameWords (s .memory) (z .memory)) (sameStatus (s .at) (z .at)) (p .1) in
     ap (λ (x : Status). record { at = x; regs = s .regs; memory = s .memory }) (status-is (s .at) (z .at) (q .1))
-    ∙ ap₂ (λ (x y : List ℕ). record { at = z .at; regs = x; memory = y }) (words-are (s .regs) (z .regs) (p .0)) (words-are (s .memory) (z .memory) (q .0))
+    ∙ ap₂ (λ (x y : List ℕ). record { at = z .at; regs = x; memory = y }) (same-is (s .regs) (z .regs) (p .0)) (same-is (s .memory) (z .memory) (q .0))
 
 pub machine-lawful : Lawful machine
 machine-lawful =
     record {
       still = λ s x e. let q = at-qif s e in is-qif (withReg s (coinAt s) x) (qif-stays s (coinAt s) x (at-name s q) q);
       set = λ s x e. let q = at-qif s e in ap (λ (o : Op). reg (withReg s (coinAt s) x) (coinOf (kindOf o))) (op-stays s (coinAt s) x (at-name s q)) ∙ reads s (coinAt s) x (at-name s q);
-      held = λ s t x h. eqb-true (reg t (coinAt t)) x (both-true (eqb (coinAt s) (coinAt t)) (eqb (reg t (coinAt t)) x) h .1);
+      held = λ s t x h. eqb-true (reg t (coinAt t)) x (and-true (eqb (coinAt s) (coinAt t)) (eqb (reg t (coinAt t)) x) h .1);
       alike = λ s t u h. views-are _ _ h;
     }
   where
