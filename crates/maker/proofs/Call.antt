@@ -1,15 +1,15 @@
 -- The call around the walk: what an accepted start gives, and what is promised of either end. Assumes nothing.
-use mathlib.Core.Path.{_≡_, refl, sym, ap, ap₂, _∙_, subst}
+use mathlib.Core.Path.{_≡_, refl, sym, ap, _∙_}
 use mathlib.Core.Bool.{Bool, true, false, not, _&&_}
 use mathlib.Core.List.{List, _++_}
-use Prim.Native.Nat.{ℕ, suc, _*_, _<_, _≤_}
+use Prim.Native.Nat.{ℕ, _*_, _<_, _≤_}
 use native.Mathlib.Omega.{arith}
 use lib.Dec.{eqb, ltb, leb}
 use lib.ListN.{length, getD, take, drop, take-append-drop, length-take}
 use lib.Seq.{length-take-le, drop-append-seam}
 use borrow.Author.Tests.{ltb-true, leb-true, eqb-true, ne-eqb, not-false}
 use Rattle.word.specs.Word.{pick}
-use Rattle.step.specs.Sizes.{inRange, isEnough, badSizes}
+use Rattle.step.specs.Sizes.{inRange, badSizes}
 use Rattle.step.specs.View.{nodes}
 use Rattle.machine.specs.Turn.{starts}
 use Rattle.machine.specs.declared.Record.{Record}

@@ -1,20 +1,19 @@
 -- Over a table that holds a walk's links, every choice of coins goes through the walk in the same number of cycles. Over any machine. Assumes nothing.
-use mathlib.Core.Path.{_≡_, refl, sym, ap, ap₂, _∙_, subst}
-use mathlib.Core.Bool.{Bool, true, false, _&&_}
-use mathlib.Core.List.{List, [], _∷_}
-use Prim.Native.Nat.{ℕ, zero, suc, _+_, _-_, _<_, _≤_, max}
+use mathlib.Core.Path.{_≡_, refl, ap, ap₂, _∙_}
+use mathlib.Core.Bool.{true, false, _&&_}
+use mathlib.Core.List.{List, _∷_}
+use Prim.Native.Nat.{ℕ, zero, suc, _+_, _-_, _≤_}
 use native.Mathlib.Omega.{arith}
-use native.Mathlib.Numerals.{sub-one, add-one}
+use native.Mathlib.Numerals.{sub-one}
 use native.Mathlib.Nat.{suc-add}
-use lib.Dec.{eqb, leb, ltb}
+use lib.Dec.{eqb}
 use borrow.Author.Tests.{le-leb, ne-eqb, eqb-true}
-use Rattle.word.specs.Word.{pick}
 use Rattle.word.proofs.Words.{and-true}
 use Rattle.step.specs.Table.{fc, lc, cf, cl, nx, pr, w, isNode, link, paired}
 use Rattle.maker.specs.Walk.{Walk, size, cycles, ending, forkSize, forkCycles, lack}
 use Rattle.maker.specs.Walk.Walk.{begin, step, fork}
-use Rattle.maker.specs.Walkable.{Look, Walkable}
-use Rattle.maker.specs.Walkable.Look.{halts, last, goes, forks, joins}
+use Rattle.maker.specs.Walkable.{Walkable}
+use Rattle.maker.specs.Walkable.Look.{goes, forks, joins}
 use Rattle.maker.proofs.Guided.{Guided, Next, guided, byNext, settled, enter, waits, leave, cycle, runs}
 use Rattle.maker.proofs.Guided.Next.{stuck, moved}
 

@@ -1,7 +1,7 @@
 -- The claims of a made table, of whatever the call answers. Assumes nothing.
 use mathlib.Core.Path.{_≡_, refl, sym, ap, ap₂, _∙_, subst}
 use mathlib.Core.Bool.{Bool, true, false, false≢true}
-use mathlib.Core.List.{List, [], _∷_, _++_}
+use mathlib.Core.List.{List, [], _++_}
 use Prim.Native.Nat.{ℕ, zero, suc, _+_, _-_, _*_, _<_, _≤_}
 use native.Mathlib.Omega.{arith}
 use lib.Dec.{eqb}
@@ -14,9 +14,9 @@ use Rattle.step.specs.declared.Attempt.the-variants.{Refused}
 use Rattle.step.specs.Step.{refuse}
 use Rattle.step.specs.Sizes.{inRange, badSizes}
 use Rattle.step.specs.View.{View, nodes}
-use Rattle.machine.specs.Turn.{pc, isCode, finishes, landed, judged}
+use Rattle.machine.specs.Turn.{pc, landed, judged}
 use Rattle.machine.specs.declared.Record.{Record}
-use Rattle.machine.specs.Calls.{statusOf, viewOf}
+use Rattle.machine.specs.Calls.{viewOf}
 use Rattle.image.specs.Check.{unpaired, checkOf}
 use Rattle.maker.specs.declared.Made.{Made}
 use Rattle.maker.specs.Walk.{Walk, size, cycles, ending, drawn}

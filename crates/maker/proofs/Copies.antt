@@ -5,11 +5,11 @@ use mathlib.Core.List.{List, [], _∷_}
 use Prim.Native.Nat.{ℕ, _+_, _-_, _<_, _≤_}
 use borrow.Rule.Slice.PartMut.{putMid, take-put}
 use native.Mathlib.Omega.{arith}
-use native.Mathlib.Decide.{decLe, ℕ-discrete}
+use native.Mathlib.Decide.{ℕ-discrete}
 use borrow.Author.Tests.{eq-eqb, eqb-true}
 use lib.Dec.{eqb}
-use lib.ListN.{length, length-set, length-append, length-drop, getD, set, take, drop, length-take, take-append-drop, drop-of-length-le, List·getD-eq-default}
-use lib.ListN.{length, getD, set, take, length-set}
+use lib.ListN.{length, length-set, getD, set, take, List·getD-eq-default}
+use lib.ListN.{getD, set, take, length-set}
 use lib.Seq.{take-length, length-take-le, getD-set-same, getD-set-other, getD-take, ext-getD}
 use Rattle.word.proofs.Words.{and-true}
 use Rattle.maker.specs.Idle.{sameWords}

@@ -1,7 +1,7 @@
 -- What holds of any walk's counts, and of an accepted qif. Assumes nothing.
-use mathlib.Core.Path.{_≡_, refl, sym, ap, _∙_, subst}
+use mathlib.Core.Path.{_≡_, refl}
 use mathlib.Core.Bool.{Bool, true, false}
-use Prim.Native.Nat.{ℕ, zero, suc, _+_, _<_, _≤_, max}
+use Prim.Native.Nat.{ℕ, zero, suc, _+_, _<_, _≤_}
 use native.Mathlib.Omega.{arith}
 use lib.Dec.{ltb, leb}
 use borrow.Author.Tests.{leb-false, ltb-false}
@@ -9,7 +9,7 @@ use Rattle.word.specs.Word.{pick}
 use Rattle.maker.specs.Walk.{Walk, size, used, cycles}
 use Rattle.maker.specs.Walk.Walk.{begin, step, fork}
 use Rattle.maker.specs.Walkable.{Walkable}
-use Rattle.maker.specs.Making.{Outcome, Forks, unless, byOutcome, opening, closing, meeting, forkBy, walkBy, forkAt, branchAt}
+use Rattle.maker.specs.Making.{Outcome, Forks, unless, byOutcome, opening, closing, meeting, forkBy, forkAt, branchAt}
 use Rattle.maker.specs.Making.Outcome.{refused, ended}
 use Rattle.maker.specs.Making.Forks.{failed, forked}
 

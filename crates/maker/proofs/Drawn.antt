@@ -3,19 +3,19 @@ use mathlib.Core.Path.{_≡_, refl, sym, ap, _∙_, subst}
 use mathlib.Core.Logic.{_≢_}
 use mathlib.Core.Bool.{Bool, true, false, _&&_, false≢true}
 use mathlib.Core.List.{List}
-use Prim.Native.Nat.{ℕ, zero, suc, _+_, _-_, _*_, _<_, _≤_}
+use Prim.Native.Nat.{ℕ, _+_, _-_, _*_, _<_, _≤_}
 use native.Mathlib.Omega.{arith}
 use native.Mathlib.Decide.{decLe}
-use lib.Dec.{eqb, ltb, leb}
-use lib.ListN.{length, getD, set, length-set}
+use lib.Dec.{eqb}
+use lib.ListN.{length, getD, length-set}
 use lib.Seq.{getD-set-same, getD-set-other}
 use borrow.Author.Tests.{lt-ltb, le-leb, eq-eqb}
 use Rattle.maker.specs.Walk.{put, pair}
 use Rattle.word.specs.Word.{pick}
 use Rattle.step.specs.Table.{fc, lc, cf, cl, nx, pr, w, isNode, link, paired}
-use Rattle.maker.specs.Walk.{Walk, size, ending, linked, drawn, forkSize, forkLinked, lack}
+use Rattle.maker.specs.Walk.{Walk, size, ending, linked, drawn, forkSize, lack}
 use Rattle.maker.specs.Walk.Walk.{begin, step, fork}
-use Rattle.maker.proofs.Choices.{Links, Holds}
+use Rattle.maker.proofs.Choices.{Holds}
 
 -- ---- words
 

@@ -11,7 +11,7 @@ use Rattle.qins.specs.Op.Op.{None, Start}
 use Rattle.qins.specs.Decode.{opcode, reg1, reg2, low, bare, namesOne, line, operation, decode, isInstruction}
 use Rattle.maker.specs.declared.Kind.{Kind}
 use Rattle.maker.specs.declared.Kind.the-variants.{Plain, Opens, Closes}
-use Rattle.maker.specs.Idle.{isGate, idleOp, kindOf}
+use Rattle.maker.specs.Idle.{idleOp, kindOf}
 
 -- by the opcode, reg1, and whether the word names it alone
 abbrev pub kindBy : ℕ → ℕ → Bool → Kind

@@ -1,24 +1,22 @@
 -- Over a finished table every choice of coins takes the same number of the machine's own turns. Assumes nothing.
-use mathlib.Core.Path.{_≡_, refl, sym, ap, ap₂, _∙_, subst}
-use mathlib.Core.Bool.{Bool, true, false, not, _&&_}
+use mathlib.Core.Path.{_≡_, refl, sym, ap, _∙_, subst}
+use mathlib.Core.Bool.{Bool, true, false, _&&_}
 use mathlib.Core.List.{List, [], _∷_}
-use Prim.Native.Nat.{ℕ, zero, suc, _+_, _-_, _*_, _<_, _≤_}
-use native.Mathlib.Omega.{arith}
-use lib.Dec.{eqb, ltb, leb}
-use lib.ListN.{length, getD, set, length-set}
-use borrow.Author.Tests.{eqb-true, leb-true, not-false}
+use Prim.Native.Nat.{ℕ, zero, suc, _+_, _-_, _≤_}
+use lib.Dec.{eqb, leb}
+use lib.ListN.{getD, length-set}
+use borrow.Author.Tests.{eqb-true, leb-true}
 use Rattle.word.specs.Word.{pick}
 use Rattle.step.specs.declared.Direction.the-variants.{Forward}
 use Rattle.step.specs.declared.Effect.{Effect}
 use Rattle.step.specs.declared.Effect.the-variants.{Nothing, Write, WriteTwo, SwapWord, SetNode}
-use Rattle.step.specs.declared.Status.{Status}
 use Rattle.step.specs.View.{View, reg, withReg}
 use Rattle.step.specs.Table.{fc, lc, cf, cl, nx, pr, w, link, paired}
 use Rattle.step.specs.Step.{performed}
 use Rattle.step.specs.Sizes.{inRange, badSizes}
 use Rattle.machine.specs.Turn.{pc, isCode, finishes, to}
 use Rattle.maker.specs.Walk.{Walk, size, cycles, ending}
-use Rattle.maker.specs.Walkable.{Look, Walkable}
+use Rattle.maker.specs.Walkable.{Look}
 use Rattle.maker.specs.Walkable.Look.{halts, last, goes, forks, joins}
 use Rattle.maker.specs.Making.{byLook, branchAt}
 use Rattle.maker.specs.Making.Outcome.{ended}
@@ -27,7 +25,7 @@ use Rattle.maker.proofs.Guided.{cycle as guidedCycle}
 use Rattle.maker.proofs.Guided.Next.{stuck, moved}
 use Rattle.maker.specs.Idle.{placed, on, lands, lookAt, coinAt, machine}
 use Rattle.maker.specs.Follow.{Walker, Went, walker, cycle, follows, byWent}
-use Rattle.maker.specs.Follow.Went.{halted, went}
+use Rattle.maker.specs.Follow.Went.{went}
 use Rattle.word.proofs.Words.{and-true}
 use Rattle.maker.proofs.Choices.{Holds}
 use Rattle.maker.proofs.Looked.{at-plain, last-is}

@@ -1,11 +1,11 @@
 -- A walk over a finished table: the machine's cycles with node and wait count, the coin of each qif chosen, and its register set and restored.
-use Prim.Native.Nat.{ℕ, zero, suc, _+_, _-_}
-use mathlib.Core.Bool.{Bool, _&&_}
+use Prim.Native.Nat.{ℕ, zero, suc, _-_}
+use mathlib.Core.Bool.{_&&_}
 use mathlib.Core.List.{List, [], _∷_}
 use lib.Dec.{eqb, leb}
 use Rattle.word.specs.Word.{pick}
 use Rattle.step.specs.Table.{fc, lc, cf, cl, nx, pr, w, link, paired}
-use Rattle.maker.specs.Walkable.{Look, Walkable}
+use Rattle.maker.specs.Walkable.{Walkable}
 use Rattle.maker.specs.Making.{byLook}
 
 -- the state, node and wait count, and the states at the qifs that are open, the innermost first

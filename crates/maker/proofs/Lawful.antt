@@ -1,23 +1,19 @@
 -- What the walk relies on of the machine: setting a coin leaves the word at pc, and states that are the same are equal. Assumes nothing.
-use mathlib.Core.Path.{_≡_, refl, sym, ap, ap₂, _∙_, subst}
-use mathlib.Core.Logic.{_≢_}
-use mathlib.Core.Bool.{Bool, true, false, not, _&&_}
-use mathlib.Core.List.{List, [], _∷_}
-use Prim.Native.Nat.{ℕ, _+_, _<_, _≤_}
+use mathlib.Core.Path.{_≡_, ap, ap₂, _∙_}
+use mathlib.Core.Bool.{Bool, true, _&&_}
+use mathlib.Core.List.{List}
+use Prim.Native.Nat.{ℕ, _<_}
 use native.Mathlib.Omega.{arith}
 use lib.Dec.{eqb, ltb}
 use lib.ListN.{length, getD, set, length-set}
 use lib.Seq.{getD-set-same, getD-set-other}
 use borrow.Author.Tests.{ltb-true, eqb-true}
 use Rattle.qins.specs.Op.{Op}
-use Rattle.qins.specs.Op.Op.{Qif, Fiq}
 use Rattle.step.specs.declared.Direction.the-variants.{Forward}
 use Rattle.step.specs.declared.Status.{Status}
 use Rattle.step.specs.View.{View, reg, withReg}
 use Rattle.step.specs.Step.{shifted}
 use Rattle.machine.specs.Turn.{pc, br, stride, isCode, starts, finishes}
-use Rattle.maker.specs.Walkable.{Look, Walkable}
-use Rattle.maker.specs.Walkable.Look.{halts, last, goes, forks, joins}
 use Rattle.maker.specs.Idle.{idleOp, opAt, kindOf, coinOf, coinAt, isRegister, sameWords, sameStatus, sameView, machine}
 use Rattle.word.proofs.Words.{and-true}
 use Rattle.maker.proofs.Copies.{same-is}

@@ -2,16 +2,14 @@
 use mathlib.Core.Path.{_≡_, refl, sym, ap, ap₂, _∙_, subst}
 use mathlib.Core.Bool.{Bool, true, false}
 use mathlib.Core.List.{List}
-use Prim.Native.Nat.{ℕ, zero, suc, _+_, _-_, _<_, _≤_}
+use Prim.Native.Nat.{ℕ, suc, _+_, _-_, _<_, _≤_}
 use native.Mathlib.Omega.{arith}
-use lib.Dec.{ltb, leb}
 use lib.ListN.{length}
 use borrow.Author.Tests.{lt-ltb, le-ltb}
 use Rattle.word.specs.Word.{pick}
 use Rattle.step.specs.View.{View}
 use Rattle.maker.specs.Walk.{Walk, size, used, cycles, ending, drawn, forkSize, forkUsed, forkCycles, forkDrawn}
 use Rattle.maker.specs.Walk.Walk.{begin, step, fork}
-use Rattle.maker.specs.Walkable.{Look}
 use Rattle.maker.specs.Walkable.Look.{halts, last, goes, forks, joins}
 use Rattle.maker.specs.Making.{Outcome, Forks, walkBy, forkAt, branchAt}
 use Rattle.maker.specs.Making.Outcome.{refused, ended}

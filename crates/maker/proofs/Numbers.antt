@@ -9,7 +9,7 @@ use Rattle.maker.specs.Walk.{Walk, size, used}
 use Rattle.maker.specs.Walk.Walk.{begin, step, fork}
 use Rattle.maker.specs.Walkable.{Look, Walkable}
 use Rattle.maker.specs.Walkable.Look.{halts, last, goes, forks, joins}
-use Rattle.maker.specs.Making.{Outcome, Forks, byLook, byOutcome, byForks, unless, opening, closing, meeting, forkBy, walkBy, forkAt, branchAt}
+use Rattle.maker.specs.Making.{Outcome, Forks, byLook, byOutcome, byForks, unless, forkBy, walkBy, forkAt, branchAt}
 use Rattle.maker.specs.Making.Outcome.{refused, ended}
 use Rattle.maker.specs.Making.Forks.{failed, forked}
 

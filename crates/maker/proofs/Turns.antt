@@ -1,14 +1,11 @@
 -- A cycle of the machine as the maker walks it is a turn of the machine itself. Assumes nothing.
 use mathlib.Core.Path.{_≡_, refl, sym, ap, ap₂, _∙_, subst}
-use mathlib.Core.Logic.{_≢_}
 use mathlib.Core.Bool.{Bool, true, false, not, _&&_}
 use mathlib.Core.List.{List, [], _∷_}
-use Prim.Native.Nat.{ℕ, zero, suc, _+_, _-_, _*_, _<_, _≤_}
-use native.Mathlib.Omega.{arith}
-use lib.Dec.{eqb, ltb, leb}
-use lib.ListN.{length, getD, set, length-set}
+use Prim.Native.Nat.{ℕ, _-_, _≤_}
+use lib.Dec.{eqb}
 use lib.Seq.{set-getD}
-use borrow.Author.Tests.{eqb-true, le-ltb, le-leb, leb-true}
+use borrow.Author.Tests.{le-ltb, le-leb}
 use Rattle.word.specs.Word.{pick}
 use Rattle.qins.specs.Op.{Op}
 use Rattle.qins.specs.Op.Op.{None, Start, Finish, Xor, Add, Sub, Neg, Swap, SwapBits, Fetch, Exchange, Qif, Fiq}
@@ -17,22 +14,20 @@ use Rattle.step.specs.declared.Effect.{Effect}
 use Rattle.step.specs.declared.Effect.the-variants.{Nothing, Write, WriteTwo, SwapWord, SetNode}
 use Rattle.step.specs.declared.Attempt.{Attempt}
 use Rattle.step.specs.declared.Attempt.the-variants.{Refused, Does}
-use Rattle.step.specs.declared.Status.{Status}
 use Rattle.step.specs.View.{View, reg, withReg}
 use Rattle.step.specs.Table.{fc, lc, cf, cl, nx, pr, w, link, paired}
-use Rattle.step.specs.Step.{shifted, performed, marked, written, refuse, attempt, isCoin, qif, child, pass, fiq}
+use Rattle.step.specs.Step.{shifted, performed, refuse, attempt, qif, child, pass, fiq}
 use Rattle.step.specs.Step.{enter as entered}
 use Rattle.step.specs.Sizes.{inRange, badSizes}
-use Rattle.machine.specs.Turn.{pc, br, atPc, stride, isCode, starts, finishes, landed, judged, from, to, turned}
-use Rattle.maker.specs.Walkable.{Look, Walkable}
-use Rattle.maker.specs.Walkable.Look.{halts, last, goes, forks, joins}
+use Rattle.machine.specs.Turn.{pc, br, atPc, stride, isCode, starts, finishes, landed, judged, from, to}
+use Rattle.maker.specs.Walkable.Look.{goes, forks, joins}
 use Rattle.maker.proofs.Guided.{settled}
 use Rattle.maker.specs.declared.Kind.{Kind}
-use Rattle.maker.specs.Idle.{opAt, kindOf, coinOf, coinAt, placed, on, lands, isRegister, lookAt, machine}
-use Rattle.maker.specs.Follow.{idled, plannedIdle, Walker, Went, walker, byTurn, turnThen, cycleBy, cycle}
-use Rattle.maker.specs.Follow.Went.{halted, went}
+use Rattle.maker.specs.Idle.{opAt, kindOf, coinOf, coinAt, placed, on, lands, lookAt, machine}
+use Rattle.maker.specs.Follow.{idled, plannedIdle, Walker, walker, byTurn, turnThen, cycleBy, cycle}
+use Rattle.maker.specs.Follow.Went.{went}
 use Rattle.maker.proofs.Effects.{IsPlain, NoNode, Fine, plain-effect, landed-effect}
-use Rattle.maker.proofs.Looked.{AtQif, AtFiq, AtPlain, at-qif, at-fiq, at-plain}
+use Rattle.maker.proofs.Looked.{at-qif, at-fiq, at-plain}
 use Rattle.maker.proofs.Lawful.{pc-stays, br-stays, reads, op-stays}
 
 -- ---- a turn that is not refused for sizes, pc or finish

@@ -1,6 +1,6 @@
 -- The walk that makes a table (document 02, #107): the number that refuses it, else its tree and the state at its end.
 use Prim.Native.Nat.{ℕ, zero, suc, _+_}
-use mathlib.Core.Bool.{Bool, true, false}
+use mathlib.Core.Bool.{Bool, true}
 use lib.Dec.{ltb, leb}
 use Rattle.word.specs.Word.{pick}
 use Rattle.maker.specs.Walk.{Walk, size, used}

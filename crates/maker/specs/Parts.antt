@@ -12,7 +12,6 @@ use Rattle.step.specs.declared.Status.{Status}
 use Rattle.step.specs.View.{View}
 use Rattle.step.specs.Step.{shifted}
 use Rattle.machine.specs.Turn.{stride, finishes}
-use Rattle.maker.specs.declared.Kind.{Kind}
 use Rattle.maker.specs.declared.Kind.the-variants.{Plain}
 use Rattle.maker.specs.declared.Seen.{Seen}
 use Rattle.maker.specs.declared.Seen.the-variants.{Halts, Last, Goes, Forks as AtFork, Joins}

@@ -1,6 +1,5 @@
 use borrow.Author.Needs.{needs}
 use native.Mathlib.Omega.{arith}
-use borrow.Author.Tests.{eq-eqb, ne-eqb, lt-ltb, le-ltb, le-leb, lt-leb}
 use Prim.Native.Nat.{_-_}
 use lib.ListN.{length}
 use Rattle.maker.proofs.Copies.{Alike, alike-none, alike-more, alike-not, alike-all}

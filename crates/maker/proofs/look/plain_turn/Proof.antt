@@ -2,7 +2,6 @@ use mathlib.Core.Path.{sym, ap, _∙_}
 use native.Mathlib.Omega.{arith}
 use denote.Ref.{now}
 use Rattle.qins.specs.Decode.{decode}
-use Rattle.maker.specs.Idle.{plain}
 use Rattle.maker.proofs.Stepped.{as-op, not-gate, is-start, is-none, none-halts}
 use borrow.Author.Needs.{needs}
 use Rattle.maker.proofs.look.plain_turn.Statement.{statement}

@@ -1,4 +1,3 @@
-use borrow.Author.Needs.{needs}
 use borrow.Author.Tests.{lt-ltb, le-ltb, le-leb, lt-leb}
 use Rattle.maker.proofs.walk.opening.Statement.{statement}
 use Rattle.maker.proofs.walk.opening.Tie as tie
