@@ -1,5 +1,5 @@
--- What a word that is no qif or fiq does: it sets no node, and no refusal of it is 0. Assumes nothing.
-use mathlib.Core.Path.{_≡_}
+-- What a word that is no qif or fiq does where nothing waits: it sets no node, and its refusals are of the list. Assumes nothing.
+use mathlib.Core.Path.{_≡_, refl}
 use mathlib.Core.Bool.{Bool, true, false}
 use mathlib.Core.List.{[]}
 use Prim.Native.Nat.{ℕ}
@@ -16,7 +16,8 @@ use Rattle.step.specs.Step.{refuse, attempt}
 use Rattle.machine.specs.Turn.{landed}
 use Rattle.maker.specs.declared.Kind.{Kind}
 use Rattle.maker.specs.declared.Kind.the-variants.{Plain, Opens, Closes}
-use Rattle.maker.specs.Idle.{kindOf}
+use Rattle.maker.specs.Idle.{kindOf, placed}
+use Rattle.maker.specs.Claims.{isOneOf, walkRefusals}
 
 abbrev pub IsPlain : Kind → Type 0
 IsPlain Plain = Unit {0}
@@ -31,33 +32,37 @@ NoNode (WriteTwo a v b x) = Unit {0}
 NoNode (SwapWord a i) = Unit {0}
 NoNode (SetNode u j) = ⊥
 
--- a refusal that is none of 0, or such an effect
+-- a refusal of the list, or such an effect
 abbrev pub Fine : Attempt → Type 0
-Fine (Refused n) = ¬ (n ≡ 0)
+Fine (Refused n) = isOneOf n walkRefusals ≡ true
 Fine (Does e) = NoNode e
 
-fine : (b : Bool) (n : ℕ) (x : Attempt) → ¬ (n ≡ 0) → Fine x → Fine (refuse b n x)
+fine : (b : Bool) (n : ℕ) (x : Attempt) → isOneOf n walkRefusals ≡ true → Fine x → Fine (refuse b n x)
 unfolding refuse
 fine true n x h f = h
 fine false n x h f = f
 
-pub plain-effect : (o : Op) → IsPlain (kindOf o) → (s : View) → Fine (attempt [] Forward o s)
+no-wait : (x : Attempt) → Fine x → Fine (refuse false 14 x)
+unfolding refuse
+no-wait x h = h
+
+pub plain-effect : (o : Op) → IsPlain (kindOf o) → (s : View) → Fine (attempt [] Forward o (placed 0 0 0 s))
 unfolding attempt
-plain-effect None p s = λ z. omega (arith, z)
-plain-effect Start p s = fine _ 14 (Does Nothing) (λ z. omega (arith, z)) tt
-plain-effect Finish p s = fine _ 14 (Does Nothing) (λ z. omega (arith, z)) tt
-plain-effect (Xor a x) p s = fine _ 14 (Does (Write a _)) (λ z. omega (arith, z)) tt
-plain-effect (Add a x) p s = fine _ 14 (Does (Write a _)) (λ z. omega (arith, z)) tt
-plain-effect (Sub a x) p s = fine _ 14 (Does (Write a _)) (λ z. omega (arith, z)) tt
-plain-effect (Neg a) p s = fine _ 14 (Does (Write a _)) (λ z. omega (arith, z)) tt
-plain-effect (Swap a b) p s = fine _ 14 (Does (WriteTwo a _ b _)) (λ z. omega (arith, z)) tt
-plain-effect (SwapBits a b) p s = fine _ 14 (Does (WriteTwo a _ b _)) (λ z. omega (arith, z)) tt
-plain-effect (Fetch a b) p s = fine _ 14 _ (λ z. omega (arith, z)) (fine _ 15 (Does (Write a _)) (λ z. omega (arith, z)) tt)
-plain-effect (Exchange a x) p s = fine _ 14 _ (λ z. omega (arith, z)) (fine _ 15 (Does (SwapWord a _)) (λ z. omega (arith, z)) tt)
+plain-effect None p s = refl
+plain-effect Start p s = no-wait (Does Nothing) tt
+plain-effect Finish p s = no-wait (Does Nothing) tt
+plain-effect (Xor a x) p s = no-wait (Does (Write a _)) tt
+plain-effect (Add a x) p s = no-wait (Does (Write a _)) tt
+plain-effect (Sub a x) p s = no-wait (Does (Write a _)) tt
+plain-effect (Neg a) p s = no-wait (Does (Write a _)) tt
+plain-effect (Swap a b) p s = no-wait (Does (WriteTwo a _ b _)) tt
+plain-effect (SwapBits a b) p s = no-wait (Does (WriteTwo a _ b _)) tt
+plain-effect (Fetch a b) p s = no-wait _ (fine _ 15 (Does (Write a _)) refl tt)
+plain-effect (Exchange a x) p s = no-wait _ (fine _ 15 (Does (SwapWord a _)) refl tt)
 plain-effect (Qif a) p s = absurd p
 plain-effect (Fiq a) p s = absurd p
 
 pub landed-effect : (s : View) (x : Attempt) → Fine x → Fine (landed Forward s x)
 unfolding landed
 landed-effect s (Refused n) h = h
-landed-effect s (Does e) h = fine _ 18 (Does e) (λ z. omega (arith, z)) h
+landed-effect s (Does e) h = fine _ 18 (Does e) refl h

@@ -24,7 +24,7 @@ use Rattle.maker.proofs.Guided.{Guided, Next, guided, settled, enter, w
 use Rattle.maker.proofs.Guided.{cycle as guidedCycle}
 use Rattle.maker.proofs.Guided.Next.{stuck, moved}
 use Rattle.maker.specs.Idle.{placed, on, lands, lookAt, coinAt, machine}
-use Rattle.maker.specs.Follow.{Walker, Went, walker, cycle, follows, byWent}
+use Rattle.maker.specs.Follow.{Saved, saved, Walker, Went, walker, cycle, follows, byWent}
 use Rattle.maker.specs.Follow.Went.{went}
 use Rattle.word.proofs.Words.{and-true}
 use Rattle.maker.proofs.Choices.{Holds}
@@ -46,10 +46,10 @@ all-other : (P : Guided View → Type 0) (b : Bool) (x : Next View) (k : ℕ) �
 all-other P true x k h = tt
 all-other P false x k h = h refl
 
--- the values that the registers get back
-unfoldable coins : List View → List ℕ
+-- what the registers get back
+unfoldable coins : List View → List Saved
 coins [] = []
-coins (s ∷ l) = reg s (coinAt s) ∷ coins l
+coins (s ∷ l) = saved s (coinAt s) ∷ coins l
 
 module _ (t : List ℕ) (N : ℕ) where
   abbrev embed : Guided View → Walker
@@ -100,7 +100,7 @@ module _ (t : List ℕ) (N : ℕ) where
       all-pick _ (leb (reg s (coinAt s)) 1) _ 16 λ b.
       all-pick _ (paired t N (link t N v cl) (lc (reg s (coinAt s))) v cl && paired t N (link t N v cl) nx (link t N (link t N v cl) nx) pr) _ 17 λ p.
       all-other _ (lands s) _ 18 λ f. all-pick _ (eqb (coinAt s₀) (coinAt s) && eqb (reg s (coinAt s)) (reg s (coinAt s))) (moved _) 24 λ h.
-      (fiq-ends t N s s₀ v x (coins l) z (leb-true (reg s (coinAt s)) 1 b) e f (eqb-true (coinAt s₀) (coinAt s) (and-true (eqb (coinAt s₀) (coinAt s)) _ h .0)) p, z)
+      (fiq-ends t N s s₀ v x (coins l) z (leb-true (reg s (coinAt s)) 1 b) e f p, z)
 
   -- by the look and the wait count
   still : (x : ℕ) (s : View) (v j : ℕ) (l : List View) (r : Next View) → (b : Bool) → eqb j 0 ≡ b → (k : ℕ)

@@ -1,9 +1,9 @@
 -- In a table drawn from zeros every link is 0 or paired, so that the check of images refuses none. Assumes nothing.
-use mathlib.Core.Path.{_≡_, refl, sym, ap, ap₂, _∙_}
+use mathlib.Core.Path.{_≡_, refl, sym, ap, ap₂, _∙_, subst}
 use mathlib.Core.Logic.{_≢_, _⊎_, inl, inr}
 use mathlib.Core.Bool.{true, false}
 use mathlib.Core.List.{List, [], _∷_}
-use Prim.Native.Nat.{ℕ, _+_, _-_, _*_, _%_, _<_, _≤_}
+use Prim.Native.Nat.{ℕ, _+_, _-_, _*_, _/_, _%_, _<_, _≤_}
 use native.Mathlib.Omega.{arith}
 use native.Mathlib.Decide.{ℕ-discrete}
 use lib.ListN.{length, getD, take}
@@ -12,9 +12,9 @@ use Rattle.step.specs.Table.{fc, lc, cf, cl, nx, pr, w, link}
 use Rattle.step.specs.View.{nodes}
 use Rattle.step.proofs.Views.{link-node}
 use Rattle.machine.specs.declared.Record.{Record}
-use Rattle.machine.specs.Calls.{statusOf}
+use Rattle.machine.specs.Calls.{statusOf, wrongSizes}
 use Rattle.image.specs.declared.Checked.{Checked}
-use Rattle.image.specs.Check.{returns, childrenReturn, unpaired, checkOf}
+use Rattle.image.specs.Check.{returns, childrenReturn, unpaired, checkOf, checkNodeOf}
 use Rattle.image.specs.CheckClaims.{Paired}
 use Rattle.image.proofs.Decides.{both, either, equal, node}
 use Rattle.image.proofs.OneNode.{links-decide}
@@ -240,6 +240,18 @@ pub made-paired : (p : Walk) (t : List ℕ) (v : ℕ) → 9 * (1 + size p) ≤ l
 made-paired p t v l z =
     let start : Ready (1 + size p) t 1 1 = record { closed = λ u j h k. inl (z _); at = λ i k. z _; above = λ u i h k. z _ } in
     all-paired (drawn p 1 1 t) (1 + size p) (ready (1 + size p) p 1 1 t (omega arith) (omega arith) (omega arith) l start .closed) v
+
+-- the words behind the nodes stay zero
+pub made-zeros : (p : Walk) (t : List ℕ) (i : ℕ) → 1 + size p ≤ 511 → 9 * 511 ≤ length t → ((i : ℕ) → getD t i 0 ≡ 0) → 9 * (1 + size p) ≤ i
+    → getD (drawn p 1 1 t) i 0 ≡ 0
+made-zeros p t i h l z k =
+    let start : Ready 511 t 1 1 = record { closed = λ u j h k. inl (z _); at = λ i k. z _; above = λ u i h k. z _ } in
+    subst (λ (j : ℕ). getD (drawn p 1 1 t) j 0 ≡ 0) (omega arith)
+    (ready 511 p 1 1 t (omega arith) (omega arith) h l start .above (i / 9 + 1) (i % 9) (omega arith) (omega arith))
+
+pub node-passes : (r : Record) (mem table : List ℕ) (v : ℕ) → wrongSizes r mem table ≡ false → 0 < v → v ≤ r .n
+    → unpaired (nodes (statusOf r) table) (r .n) v ≡ false → checkNodeOf r v mem table ≡ 0
+node-passes r mem table v o p q h = links-decide r v mem table o p q ∙ rw h
 
 pub check-passes : (r : Record) (mem table : List ℕ) → ((v : ℕ) → 0 < v → v ≤ r .n → unpaired (nodes (statusOf r) table) (r .n) v ≡ false)
     → checkOf r mem table .refusal ≡ 8 → ⊥

@@ -19,6 +19,7 @@ use Rattle.maker.specs.declared.Kind.the-variants.{Plain, Opens, Closes}
 use Rattle.maker.specs.Walkable.{Look}
 use Rattle.maker.specs.Walkable.Look.{halts, last, goes, forks, joins}
 use Rattle.maker.proofs.Effects.{IsPlain, Fine, plain-effect, landed-effect}
+use Rattle.maker.specs.Claims.{isOneOf, walkRefusals}
 use Rattle.maker.specs.Idle.{opAt, kindOf, placed, lands, isRegister, ledTo, lookBy, lookAt}
 
 -- ---- what a kind says of the operation
@@ -69,7 +70,7 @@ pub record AtPlain (s z : View) : Type 0 where
   pub next : to Forward (performed e (placed 0 0 0 s)) ≡ z
 
 abbrev Says : View → Look View → Type 0
-Says s (halts k) = ¬ (k ≡ 0)
+Says s (halts k) = isOneOf k walkRefusals ≡ true
 Says s last = (isCode (s .at) (pc s) ≡ true) × (finishes (s .memory) (pc s) ≡ true)
 Says s (goes z) = AtPlain s z
 Says s forks = AtQif s
@@ -82,18 +83,18 @@ module _ (s : View) (code : isCode (s .at) (pc s) ≡ true) (runs : finishes (s 
   by-effect p (Does e) d f = record { plain = p; e = e; does = d; code = code; runs = runs; next = refl }
 
   by-qif : (a : ℕ) → opAt s ≡ Qif a → (x y : Bool) → isRegister s a ≡ x → lands s ≡ y → Says s (pick x (pick y (halts 18) forks) (halts 13))
-  by-qif a q true true h k = λ z. omega (arith, z)
+  by-qif a q true true h k = refl
   by-qif a q true false h k = record { a = a; op = q; named = h; code = code; runs = runs; free = k }
-  by-qif a q false y h k = λ z. omega (arith, z)
+  by-qif a q false y h k = refl
 
   by-fiq : (a : ℕ) → opAt s ≡ Fiq a → (x : Bool) → isRegister s a ≡ x → Says s (pick x joins (halts 13))
   by-fiq a q true h = record { a = a; op = q; named = h; code = code; runs = runs }
-  by-fiq a q false h = λ z. omega (arith, z)
+  by-fiq a q false h = refl
 
   by-kind : (k : Kind) → kindOf (opAt s) ≡ k → Says s (lookBy k (opAt s) (placed 0 0 0 s))
   by-kind Plain q =
       let p : IsPlain (kindOf (opAt s)) = subst IsPlain (sym q) tt in
-      by-effect p _ refl (landed-effect (placed 0 0 0 s) _ (plain-effect (opAt s) p (placed 0 0 0 s)))
+      by-effect p _ refl (landed-effect (placed 0 0 0 s) _ (plain-effect (opAt s) p s))
   by-kind (Opens a) q = by-qif a (subst (λ (k : Kind). Shape k (opAt s)) q (shape (opAt s))) (isRegister s a) (lands s) refl refl
   by-kind (Closes a) q = by-fiq a (subst (λ (k : Kind). Shape k (opAt s)) q (shape (opAt s))) (isRegister s a) refl
 
@@ -101,7 +102,7 @@ by-tests : (s : View) (x y : Bool) → isCode (s .at) (pc s) ≡ x → finishes 
     → Says s (pick x (pick y last (lookBy (kindOf (opAt s)) (opAt s) (placed 0 0 0 s))) (halts 11))
 by-tests s true true p q = (p, q)
 by-tests s true false p q = by-kind s p q (kindOf (opAt s)) refl
-by-tests s false y p q = λ z. omega (arith, z)
+by-tests s false y p q = refl
 
 says : (s : View) → Says s (lookAt s)
 unfolding lookAt
@@ -119,7 +120,7 @@ at-plain s z e = subst (Says s) e (says s)
 pub last-is : (s : View) → lookAt s ≡ last → (isCode (s .at) (pc s) ≡ true) × (finishes (s .memory) (pc s) ≡ true)
 last-is s e = subst (Says s) e (says s)
 
-pub halt-is : (s : View) (k : ℕ) → lookAt s ≡ halts k → ¬ (k ≡ 0)
+pub halt-is : (s : View) (k : ℕ) → lookAt s ≡ halts k → isOneOf k walkRefusals ≡ true
 halt-is s k e = subst (Says s) e (says s)
 
 -- ---- and back

@@ -1,31 +1,61 @@
--- No refusal of a walk is 0, where none of a look is. Assumes nothing.
+-- The refusals of a walk are those listed, where those of a look are. Assumes nothing.
 use mathlib.Core.Path.{_≡_, refl}
 use mathlib.Core.Bool.{Bool, true, false}
+use mathlib.Core.Logic.{_⊎_, inl, inr}
 use Prim.Native.Nat.{ℕ, zero, suc, _+_}
 use native.Mathlib.Omega.{arith}
-use lib.Dec.{ltb}
+use lib.Dec.{ltb, leb}
 use Rattle.word.specs.Word.{pick}
 use Rattle.maker.specs.Walk.{Walk, size, used}
 use Rattle.maker.specs.Walk.Walk.{begin, step, fork}
 use Rattle.maker.specs.Walkable.{Look, Walkable}
 use Rattle.maker.specs.Walkable.Look.{halts, last, goes, forks, joins}
-use Rattle.maker.specs.Making.{Outcome, Forks, byLook, byOutcome, byForks, unless, forkBy, walkBy, forkAt, branchAt}
+use Rattle.maker.specs.Claims.{isOneOf, walkRefusals}
+use Rattle.maker.specs.Making.{Outcome, Forks, byLook, byOutcome, byForks, unless, opening, closing, meeting, forkBy, walkBy, forkAt, branchAt}
 use Rattle.maker.specs.Making.Outcome.{refused, ended}
 use Rattle.maker.specs.Making.Forks.{failed, forked}
 
 abbrev pub Numbered : {S : Type 0} → Outcome S → Type 0
-Numbered (refused i) = ¬ (i ≡ 0)
+Numbered (refused i) = isOneOf i walkRefusals ≡ true
 Numbered (ended p s) = Unit {0}
 
 abbrev NumberedFork : {S : Type 0} → Forks S → Type 0
-NumberedFork (failed i) = ¬ (i ≡ 0)
+NumberedFork (failed i) = isOneOf i walkRefusals ≡ true
 NumberedFork (forked a b s) = Unit {0}
 
-module _ {S : Type 0} (M : Walkable S) (law : (s : S) (k : ℕ) → M .look s ≡ halts k → ¬ (k ≡ 0)) (limit : ℕ) where
-  stopped : (j : ℕ) (rest : Forks S) → NumberedFork rest → NumberedFork (unless j rest)
+module _ {S : Type 0} (M : Walkable S) (law : (s : S) (k : ℕ) → M .look s ≡ halts k → isOneOf k walkRefusals ≡ true) (limit : ℕ) where
+  -- 0, or one of the list
+  abbrev Test : ℕ → Type 0
+  Test j = (j ≡ 0) ⊎ (isOneOf j walkRefusals ≡ true)
+
+  first : (b : Bool) (x y : ℕ) → Test x → Test y → Test (pick b x y)
+  first true x y h k = h
+  first false x y h k = k
+
+  stopped : (j : ℕ) (rest : Forks S) → Test j → NumberedFork rest → NumberedFork (unless j rest)
   unfolding unless
-  stopped zero rest h = h
-  stopped (suc j) rest h = λ z. omega (arith, z)
+  stopped zero rest t h = h
+  stopped (suc j) rest (inl e) h = absurd (omega (arith, e))
+  stopped (suc j) rest (inr e) h = e
+
+  opens : (n u : ℕ) → Test (opening M limit n u)
+  opens n u = first (leb limit u) 23 (pick (ltb 509 n) 23 0) (inr refl) (first (ltb 509 n) 23 0 (inr refl) (inl refl))
+
+  closes : (s : S) (u : ℕ) (s₀ : S) → Test (closing M limit s u s₀)
+  closes s u s₀ =
+      let coin : ℕ = pick (M .holds s 0 s₀) 0 24 in
+      first (M .lands s₀) 18 (pick (leb limit u) 23 coin) (inr refl)
+      (first (leb limit u) 23 coin (inr refl) (first (M .holds s 0 s₀) 0 24 (inl refl) (inr refl)))
+
+  meets : (s : S) (n u : ℕ) (s₀ s₁ : S) → Test (meeting M limit s n u s₀ s₁)
+  meets s n u s₀ s₁ =
+      let same : ℕ = pick (M .same (M .after s s₀) (M .after s s₁)) 0 24 in
+      let coin : ℕ = pick (M .holds s 1 s₁) same 24 in
+      let node : ℕ = pick (ltb 510 n) 23 coin in
+      first (M .lands s₁) 18 (pick (leb limit u) 23 node) (inr refl)
+      (first (leb limit u) 23 node (inr refl)
+      (first (ltb 510 n) 23 coin (inr refl)
+      (first (M .holds s 1 s₁) same 24 (first (M .same (M .after s s₀) (M .after s s₁)) 0 24 (inl refl) (inr refl)) (inr refl))))
 
   ended-by : (o : Outcome S) (f : Walk → S → Forks S) → Numbered o → ((p : Walk) (s : S) → NumberedFork (f p s)) → NumberedFork (byOutcome o failed f)
   unfolding byOutcome
@@ -40,7 +70,9 @@ module _ {S : Type 0} (M : Walkable S) (law : (s : S) (k : ℕ) → M .look s �
       → NumberedFork (forkBy M limit branch n u s)
   unfolding forkBy
   fork-numbered branch h n u s =
-      stopped _ _ (ended-by _ _ (h _ _ _) λ a s₀. stopped _ _ (ended-by _ _ (h _ _ _) λ b s₁. stopped _ (forked a b (M .after s s₀)) tt))
+      stopped _ _ (opens n u)
+      (ended-by _ _ (h _ _ _) λ a s₀. stopped _ _ (closes s (u + 1 + used a) s₀)
+      (ended-by _ _ (h _ _ _) λ b s₁. stopped _ (forked a b (M .after s s₀)) (meets s (n + 2 + size a + size b) (u + 1 + used a + 1 + used b) s₀ s₁) tt))
 
   module _ (qif : ℕ → ℕ → S → Forks S) (inner : (n u : ℕ) (s : S) → NumberedFork (qif n u s)) (inside : Bool) (n u : ℕ) where
     forks-on : (o : Forks S) (f : Walk → Walk → S → Outcome S) → NumberedFork o → ((a b : Walk) (s : S) → Numbered (f a b s)) → Numbered (byForks o refused f)
@@ -53,22 +85,22 @@ module _ {S : Type 0} (M : Walkable S) (law : (s : S) (k : ℕ) → M .look s �
         (byForks (qif (n + size p) (u + used p) s) refused (λ a b s₁. walkBy M limit qif inside f n u (fork p a b) s₁))
         (pick inside (ended p s) (refused 17)))
     one-more f p s more (halts k) e = law s k e
-    one-more f p s more last e = picked inside (refused 12) (ended p s) (λ z. omega (arith, z)) tt
+    one-more f p s more last e = picked inside (refused 12) (ended p s) refl tt
     one-more f p s more (goes z) e =
-        picked (ltb (u + used p) limit) (walkBy M limit qif inside f n u (step p) z) (refused 23) (more (step p) z) (λ y. omega (arith, y))
+        picked (ltb (u + used p) limit) (walkBy M limit qif inside f n u (step p) z) (refused 23) (more (step p) z) refl
     one-more f p s more forks e =
         forks-on (qif (n + size p) (u + used p) s) (λ a b s₁. walkBy M limit qif inside f n u (fork p a b) s₁) (inner (n + size p) (u + used p) s)
         (λ a b z. more (fork p a b) z)
-    one-more f p s more joins e = picked inside (ended p s) (refused 17) tt (λ z. omega (arith, z))
+    one-more f p s more joins e = picked inside (ended p s) (refused 17) tt refl
 
     walk-numbered : (f : ℕ) (p : Walk) (s : S) → Numbered (walkBy M limit qif inside f n u p s)
     unfolding walkBy
-    walk-numbered zero p s = λ z. omega (arith, z)
+    walk-numbered zero p s = refl
     walk-numbered (suc f) p s = one-more f p s (λ q z. walk-numbered f q z) (M .look s) refl
 
   forks-numbered : (nest n u : ℕ) (s : S) → NumberedFork (forkAt M limit nest n u s)
   unfolding forkAt
-  forks-numbered zero n u s = λ z. omega (arith, z)
+  forks-numbered zero n u s = refl
   forks-numbered (suc nest) n u s =
       fork-numbered _ (λ n u s. walk-numbered (forkAt M limit nest) (forks-numbered nest) true n u (suc limit) begin s) n u s
 

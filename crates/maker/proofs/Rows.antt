@@ -1,21 +1,22 @@
 -- The rows: one computed test over the table, and the law that turns it into the statement. Assumes nothing.
 use mathlib.Core.Path.{_≡_, refl}
 use mathlib.Core.Bool.{Bool, true, _&&_}
-use mathlib.Core.List.{List, [], _∷_, _++_}
+use mathlib.Core.List.{List, [], _∷_}
 use Rattle.word.proofs.Words.{and-true}
 use Rattle.qins.specs.Decode.{extended, line, operation, decode}
-use Rattle.word.specs.Word.{addWord}
+use Rattle.word.specs.Word.{addWord, subWord}
 use Rattle.step.specs.Step.{value, refuse, attempt}
+use Rattle.step.specs.Sizes.{inRange, badSizes}
 use Rattle.machine.specs.Turn.{landed}
 use Rattle.maker.specs.Walk.{size, used, cycles, ending, put, pair, linked, drawn}
 use Rattle.maker.specs.Making.{byOutcome, unless, forkBy, walkBy, forkAt}
 use Rattle.maker.specs.Idle.{idleOp, lookAt, sameWords}
 use Rattle.maker.specs.Make.{outcomeOf}
-use Rattle.maker.specs.Rows.{Row, recordOf, observed, Hold, rows}
+use Rattle.maker.specs.Rows.{Row, observed, Hold, rows}
 use Rattle.maker.proofs.Copies.{same-is}
 
 abbrev shown : Row → Bool
-shown x = sameWords (observed (outcomeOf (recordOf x) (x .limit) (x .code ++ x .words))) (x .shows)
+shown x = sameWords (observed x) (x .shows)
 
 abbrev test : List Row → Bool
 test [] = true
@@ -26,7 +27,7 @@ holds [] h = tt
 holds (x ∷ rest) h = let p = and-true (shown x) (test rest) h in (same-is _ (x .shows) (p .0), holds rest (p .1))
 
 tested : test rows ≡ true
-unfolding addWord outcomeOf byOutcome unless forkBy walkBy forkAt lookAt idleOp sameWords decode operation line extended value refuse attempt landed size used cycles ending put pair linked drawn
+unfolding addWord subWord inRange badSizes outcomeOf byOutcome unless forkBy walkBy forkAt lookAt idleOp sameWords decode operation line extended value refuse attempt landed size used cycles ending put pair linked drawn
 tested = refl
 
 pub rows-hold : Hold rows

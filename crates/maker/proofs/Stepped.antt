@@ -1,6 +1,6 @@
 -- One word: what its look is, and what the machine's own turn makes of it. Assumes nothing.
 use mathlib.Core.Path.{_≡_, refl, sym, ap, ap₂, _∙_, subst}
-use mathlib.Core.Bool.{Bool, true, false}
+use mathlib.Core.Bool.{Bool, true, false, false≢true}
 use mathlib.Core.List.{List, [], _++_, append-nil}
 use Prim.Native.Nat.{ℕ, _<_, _≤_}
 use native.Mathlib.Omega.{arith}
@@ -29,6 +29,7 @@ use Rattle.maker.specs.declared.Kind.the-variants.{Plain, Opens, Closes}
 use Rattle.maker.specs.declared.Seen.{Seen}
 use Rattle.maker.specs.Walkable.{Look}
 use Rattle.maker.specs.Walkable.Look.{halts, last, goes, forks, joins}
+use Rattle.maker.specs.Claims.{isOneOf, walkRefusals}
 use Rattle.maker.specs.Idle.{isGate, idleOp, kindOf, lands, ledTo, plain, lookBy, lookAt}
 use Rattle.maker.specs.Parts.{statusAt, viewAt, movedOn, Simple, Looks, Sized}
 use Rattle.maker.proofs.Effects.{IsPlain, NoNode, Fine, plain-effect, landed-effect}
@@ -109,7 +110,7 @@ module _ (k m : ℕ) (l z : List ℕ) (sized : Sized k m (length z)) (simple : S
       go : (y : Attempt) → x ≡ y → Fine y → n ≡ number x → l′ ≡ turned Forward x s .regs → z′ ≡ turned Forward x s .memory → Turns n l′ z′
       go (Refused i) e f p q r =
           let n-is : n ≡ i = p ∙ ap number e in
-          record { refused = λ c. ap (ledTo s) e ∙ ap halts (sym n-is); made-is = λ c. absurd (f (sym n-is ∙ c)) }
+          record { refused = λ c. ap (ledTo s) e ∙ ap halts (sym n-is); made-is = λ c. absurd (false≢true (subst (λ (j : ℕ). isOneOf j walkRefusals ≡ true) (sym n-is ∙ c) f)) }
       go (Does d) e f p q r =
           record {
             refused = λ c. absurd (c (p ∙ ap number e));

@@ -24,7 +24,7 @@ use Rattle.maker.specs.Walkable.Look.{goes, forks, joins}
 use Rattle.maker.proofs.Guided.{settled}
 use Rattle.maker.specs.declared.Kind.{Kind}
 use Rattle.maker.specs.Idle.{opAt, kindOf, coinOf, coinAt, placed, on, lands, lookAt, machine}
-use Rattle.maker.specs.Follow.{idled, plannedIdle, Walker, walker, byTurn, turnThen, cycleBy, cycle}
+use Rattle.maker.specs.Follow.{Saved, saved, idled, plannedIdle, Walker, walker, byTurn, turnThen, cycleBy, cycle}
 use Rattle.maker.specs.Follow.Went.{went}
 use Rattle.maker.proofs.Effects.{IsPlain, NoNode, Fine, plain-effect, landed-effect}
 use Rattle.maker.proofs.Looked.{at-qif, at-fiq, at-plain}
@@ -51,7 +51,7 @@ module _ (t : List ℕ) (s : View) (sized : badSizes (s .at) (s .memory) t ≡ f
 
 -- ---- a word that leads on
 
-plain-cycle : (t : List ℕ) (x : ℕ) (k : Kind) → IsPlain k → (s : View) (l : List ℕ) → cycleBy t x k s l ≡ turnThen t s (λ z. walker z l)
+plain-cycle : (t : List ℕ) (x : ℕ) (k : Kind) → IsPlain k → (s : View) (l : List Saved) → cycleBy t x k s l ≡ turnThen t s (λ z. walker z l)
 plain-cycle t x Kind.Plain p s l = refl
 plain-cycle t x (Kind.Opens a) p s l = absurd p
 plain-cycle t x (Kind.Closes a) p s l = absurd p
@@ -93,18 +93,18 @@ to-placed N v s (SetNode u j) h = absurd h
 pub goes-plain : (s z : View) (e : lookAt s ≡ goes z) → NoNode (at-plain s z e .e)
 goes-plain s z e =
     let q = at-plain s z e in
-    subst Fine (q .does) (landed-effect (placed 0 0 0 s) (attempt [] Forward (opAt s) (placed 0 0 0 s)) (plain-effect (opAt s) (q .plain) (placed 0 0 0 s)))
+    subst Fine (q .does) (landed-effect (placed 0 0 0 s) (attempt [] Forward (opAt s) (placed 0 0 0 s)) (plain-effect (opAt s) (q .plain) s))
 
 module _ (t : List ℕ) (N : ℕ) where
   abbrev pub Sized : View → Type 0
   Sized s = badSizes (placed N 0 0 s .at) (s .memory) t ≡ false
 
-  pub goes-on : (s z : View) (v x : ℕ) (l : List ℕ) → Sized s → lookAt s ≡ goes z → cycle t x (walker (placed N v 0 s) l) ≡ went (walker (placed N v 0 z) l)
+  pub goes-on : (s z : View) (v x : ℕ) (l : List Saved) → Sized s → lookAt s ≡ goes z → cycle t x (walker (placed N v 0 s) l) ≡ went (walker (placed N v 0 z) l)
   unfolding cycle badSizes inRange
   goes-on s z v x l sized e =
       let q = at-plain s z e in
       let there : idled t (placed N v 0 s) ≡ attempt [] Forward (opAt s) (placed 0 0 0 s) = plain-attempt t N v (opAt s) (q .plain) s in
-      let lands : landed Forward (placed N v 0 s) (idled t (placed N v 0 s)) ≡ Does (q .e) = ap (landed Forward (placed N v 0 s)) there ∙ (landed-placed N v s (attempt [] Forward (opAt s) (placed 0 0 0 s)) (plain-effect (opAt s) (q .plain) (placed 0 0 0 s)) ∙ q .does) in
+      let lands : landed Forward (placed N v 0 s) (idled t (placed N v 0 s)) ≡ Does (q .e) = ap (landed Forward (placed N v 0 s)) there ∙ (landed-placed N v s (attempt [] Forward (opAt s) (placed 0 0 0 s)) (plain-effect (opAt s) (q .plain) s) ∙ q .does) in
       plain-cycle t x (kindOf (opAt s)) (q .plain) (placed N v 0 s) l
       ∙ (turns t (placed N v 0 s) sized (q .code) (q .runs) (q .e) (λ y. walker y l) lands
       ∙ ap (λ (y : View). went (walker y l)) (to-placed N v s (q .e) (goes-plain s z e) ∙ ap (placed N v 0) (q .next)))
@@ -145,9 +145,9 @@ module _ (t : List ℕ) (N : ℕ) where
 
   -- ---- the machine's cycle for each of the maker's
 
-  pub qif-begins : (s : View) (v x : ℕ) (l : List ℕ) → Sized t N s → x ≤ 1 → lookAt s ≡ forks → paired t N v (fc x) (link t N v (fc x)) cf ≡ true
+  pub qif-begins : (s : View) (v x : ℕ) (l : List Saved) → Sized t N s → x ≤ 1 → lookAt s ≡ forks → paired t N v (fc x) (link t N v (fc x)) cf ≡ true
       → cycle t x (walker (placed N v 0 s) l)
-      ≡ went (walker (placed N (link t N v (fc x)) (link t N (link t N v (fc x)) w) (settled machine t N (link t N (link t N v (fc x)) w) (withReg s (coinAt s) x))) (reg s (coinAt s) ∷ l))
+      ≡ went (walker (placed N (link t N v (fc x)) (link t N (link t N v (fc x)) w) (settled machine t N (link t N (link t N v (fc x)) w) (withReg s (coinAt s) x))) (saved s (coinAt s) ∷ l))
   unfolding cycle badSizes inRange
   qif-begins s v x l sized b e p =
       let q = at-qif s e in
@@ -157,12 +157,12 @@ module _ (t : List ℕ) (N : ℕ) where
       let free : lands (placed N v 0 s′) ≡ false = ap₂ (λ (i j : ℕ). starts (s .at) (s .memory) (shifted Forward i (stride j))) (pc-stays s (q .a) x (q .named)) (br-stays s (q .a) x (q .named)) ∙ q .free in
       let here : coinAt s ≡ q .a = ap (λ (o : Op). coinOf (kindOf o)) (q .op) in
       ap (λ (o : Op). cycleBy t x (kindOf o) (placed N v 0 s) l) (q .op)
-      ∙ (turns t (placed N v 0 s′) sized (ap (isCode (s .at)) (pc-stays s (q .a) x (q .named)) ∙ q .code) (ap (finishes (s .memory)) (pc-stays s (q .a) x (q .named)) ∙ q .runs) (SetNode u (link t N u w)) (λ z. walker z (reg s (q .a) ∷ l))
+      ∙ (turns t (placed N v 0 s′) sized (ap (isCode (s .at)) (pc-stays s (q .a) x (q .named)) ∙ q .code) (ap (finishes (s .memory)) (pc-stays s (q .a) x (q .named)) ∙ q .runs) (SetNode u (link t N u w)) (λ z. walker z (saved s (q .a) ∷ l))
       (ap (λ (y : Attempt). landed Forward (placed N v 0 s′) y) does ∙ set-lands (placed N v 0 s′) u (link t N u w) free)
-      ∙ (ap (λ (y : View). went (walker y (reg s (q .a) ∷ l))) (set-to t N N u (link t N u w) v 0 s′)
-      ∙ ap (λ (a : ℕ). went (walker (placed N u (link t N u w) (settled machine t N (link t N u w) (withReg s a x))) (reg s a ∷ l))) (sym here)))
+      ∙ (ap (λ (y : View). went (walker y (saved s (q .a) ∷ l))) (set-to t N N u (link t N u w) v 0 s′)
+      ∙ ap (λ (a : ℕ). went (walker (placed N u (link t N u w) (settled machine t N (link t N u w) (withReg s a x))) (saved s a ∷ l))) (sym here)))
 
-  pub qif-waits : (s : View) (v j x : ℕ) (l : List ℕ) → Sized t N s → eqb j 0 ≡ false → reg s (coinAt s) ≤ 1 → lookAt s ≡ forks
+  pub qif-waits : (s : View) (v j x : ℕ) (l : List Saved) → Sized t N s → eqb j 0 ≡ false → reg s (coinAt s) ≤ 1 → lookAt s ≡ forks
       → paired t N (link t N v cf) (fc (reg s (coinAt s))) v cf ≡ true → j ≤ link t N v w
       → cycle t x (walker (placed N v j s) l) ≡ went (walker (placed N v (j - 1) (settled machine t N (j - 1) s)) l)
   unfolding cycle badSizes inRange
@@ -171,24 +171,23 @@ module _ (t : List ℕ) (N : ℕ) where
       let here : coinAt s ≡ q .a = ap (λ (o : Op). coinOf (kindOf o)) (q .op) in
       let does : idled t (placed N v j s) ≡ Does (SetNode v (j - 1)) = ap (λ (o : Op). attempt t Forward o (placed N v j s)) (q .op) ∙ waiting s v j (q .a) (reg s (coinAt s)) z b (ap (reg s) (sym here)) p h in
       ap (λ (o : Op). cycleBy t x (kindOf o) (placed N v j s) l) (q .op)
-      ∙ (ap (λ (y : Bool). pick y (turnThen t (withReg (placed N v j s) (q .a) x) (λ z. walker z (reg s (q .a) ∷ l))) (turnThen t (placed N v j s) (λ z. walker z l))) z
+      ∙ (ap (λ (y : Bool). pick y (turnThen t (withReg (placed N v j s) (q .a) x) (λ z. walker z (saved s (q .a) ∷ l))) (turnThen t (placed N v j s) (λ z. walker z l))) z
       ∙ (turns t (placed N v j s) sized (q .code) (q .runs) (SetNode v (j - 1)) (λ z. walker z l)
       (ap (λ (y : Attempt). landed Forward (placed N v j s) y) does ∙ set-lands (placed N v j s) v (j - 1) (q .free))
       ∙ ap (λ (y : View). went (walker y l)) (set-to t N N v (j - 1) v j s)))
 
-  pub fiq-ends : (s s₀ : View) (v x : ℕ) (l : List ℕ) → Sized t N s → reg s (coinAt s) ≤ 1 → lookAt s ≡ joins → lands s ≡ false → coinAt s₀ ≡ coinAt s
+  pub fiq-ends : (s s₀ : View) (v x : ℕ) (l : List Saved) → Sized t N s → reg s (coinAt s) ≤ 1 → lookAt s ≡ joins → lands s ≡ false
       → (paired t N (link t N v cl) (lc (reg s (coinAt s))) v cl && paired t N (link t N v cl) nx (link t N (link t N v cl) nx) pr) ≡ true
-      → cycle t x (walker (placed N v 0 s) (reg s₀ (coinAt s₀) ∷ l))
+      → cycle t x (walker (placed N v 0 s) (saved s₀ (coinAt s₀) ∷ l))
       ≡ went (walker (placed N (link t N (link t N v cl) nx) 0 (withReg (on s) (coinAt s₀) (reg s₀ (coinAt s₀)))) l)
   unfolding cycle badSizes inRange
-  fiq-ends s s₀ v x l sized b e free same p =
+  fiq-ends s s₀ v x l sized b e free p =
       let q = at-fiq s e in
       let m = link t N (link t N v cl) nx in
-      let c = reg s₀ (coinAt s₀) in
+      let back : View → Walker = λ z. walker (withReg z (coinAt s₀) (reg s₀ (coinAt s₀))) l in
       let here : coinAt s ≡ q .a = ap (λ (o : Op). coinOf (kindOf o)) (q .op) in
       let does : idled t (placed N v 0 s) ≡ Does (SetNode m 0) = ap (λ (o : Op). attempt t Forward o (placed N v 0 s)) (q .op) ∙ leaves s v (q .a) (reg s (coinAt s)) b (ap (reg s) (sym here)) p in
-      ap (λ (o : Op). cycleBy t x (kindOf o) (placed N v 0 s) (c ∷ l)) (q .op)
-      ∙ (turns t (placed N v 0 s) sized (q .code) (q .runs) (SetNode m 0) (λ z. walker (withReg z (q .a) c) l)
+      ap (λ (o : Op). cycleBy t x (kindOf o) (placed N v 0 s) (saved s₀ (coinAt s₀) ∷ l)) (q .op)
+      ∙ (turns t (placed N v 0 s) sized (q .code) (q .runs) (SetNode m 0) back
       (ap (λ (y : Attempt). landed Forward (placed N v 0 s) y) does ∙ set-lands (placed N v 0 s) m 0 free)
-      ∙ (ap (λ (y : View). went (walker (withReg y (q .a) c) l)) (set-to t N N m 0 v 0 s)
-      ∙ ap (λ (a : ℕ). went (walker (placed N m 0 (withReg (on s) a c)) l)) (sym (same ∙ here))))
+      ∙ ap (λ (y : View). went (back y)) (set-to t N N m 0 v 0 s))

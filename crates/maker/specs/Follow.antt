@@ -22,17 +22,25 @@ idled t s = attempt t Forward (opAt s) s
 abbrev pub plannedIdle : List ℕ → View → Attempt
 plannedIdle t s = plannedBy (idled t) t Forward false s
 
--- what is turned, and the words that the coin registers of the open qifs had, the innermost first
+-- a coin register, and the word that it had before its qif
+pub record Saved : Type 0 where
+  pub register : ℕ
+  pub word : ℕ
+
+abbrev pub saved : View → ℕ → Saved
+saved s a = record { register = a; word = reg s a }
+
+-- what is turned, and what is to be restored, of the qif begun last first
 pub record Walker : Type 0 where
   pub view : View
-  pub saved : List ℕ
+  pub begun : List Saved
 
 pub data Went : Type 0 where
   halted : ℕ → Went
   went : Walker → Went
 
-abbrev pub walker : View → List ℕ → Walker
-walker s l = record { view = s; saved = l }
+abbrev pub walker : View → List Saved → Walker
+walker s l = record { view = s; begun = l }
 
 -- a turn from s, refused or made, and what is then done with the view after it
 abbrev pub byTurn : Attempt → View → (View → Walker) → Went
@@ -42,21 +50,21 @@ byTurn (Does e) s f = went (f (turned Forward (Does e) s))
 abbrev pub turnThen : List ℕ → View → (View → Walker) → Went
 turnThen t s f = byTurn (plannedIdle t s) s f
 
-abbrev pub leaving : List ℕ → View → ℕ → List ℕ → Went
-leaving t s a [] = halted 17
-leaving t s a (v ∷ l) = turnThen t s (λ z. walker (withReg z a v) l)
+abbrev pub leaving : List ℕ → View → List Saved → Went
+leaving t s [] = halted 17
+leaving t s (x ∷ l) = turnThen t s (λ z. walker (withReg z (x .register) (x .word)) l)
 
 -- with coin x where a qif begins; a qif that waits goes on with its own
-abbrev pub cycleBy : List ℕ → ℕ → Kind → View → List ℕ → Went
+abbrev pub cycleBy : List ℕ → ℕ → Kind → View → List Saved → Went
 cycleBy t x Plain s l = turnThen t s (λ z. walker z l)
 cycleBy t x (Opens a) s l =
     pick (eqb (s .at .qifw) 0)
-    (turnThen t (withReg s a x) (λ z. walker z (reg s a ∷ l)))
+    (turnThen t (withReg s a x) (λ z. walker z (saved s a ∷ l)))
     (turnThen t s (λ z. walker z l))
-cycleBy t x (Closes a) s l = leaving t s a l
+cycleBy t x (Closes a) s l = leaving t s l
 
 unfoldable pub cycle : List ℕ → ℕ → Walker → Went
-cycle t x g = cycleBy t x (kindOf (opAt (g .view))) (g .view) (g .saved)
+cycle t x g = cycleBy t x (kindOf (opAt (g .view))) (g .view) (g .begun)
 
 unfoldable pub byWent : Went → (Walker → Went) → Went
 byWent (halted n) f = halted n

@@ -1,67 +1,80 @@
--- Small programs and what is made of them, worked out by hand from document 02, as one table under one statement. Proved in proofs/Rows.
+-- Small programs and what the call makes of them, worked out by hand from document 02, as one table under one statement.
+-- Proved in proofs/Rows.
 use Prim.Native.Nat.{ℕ, _+_, _*_}
 use mathlib.Core.Path.{_≡_}
 use mathlib.Core.List.{List, [], _∷_, _++_}
-use lib.ListN.{length, getD, replicate}
 use lib.IntN.{pos}
-use Rattle.step.specs.Table.{nodeWords}
-use Rattle.step.specs.View.{View}
+use lib.ListN.{length, take, replicate}
+use Rattle.step.specs.Table.{tableWords}
 use Rattle.machine.specs.declared.Record.{Record}
-use Rattle.maker.specs.Walk.{size, cycles, drawn}
-use Rattle.maker.specs.Making.{Outcome, byOutcome}
-use Rattle.maker.specs.Make.{outcomeOf}
+use Rattle.maker.specs.Make.{makeOf, tableAfter}
 
--- a program with data words behind it, the words in r1 and r2, the limit, and what the walk from its first word shows
+-- the record and the memory, the limit, the words of table and scratch that are lent, all of them 9, and what the call shows
 pub record Row : Type 0 where
-  pub code : List ℕ
-  pub words : List ℕ
-  pub r1 : ℕ
-  pub r2 : ℕ
+  pub state : Record
+  pub memory : List ℕ
   pub limit : ℕ
+  pub table : ℕ
+  pub scratch : ℕ
   pub shows : List ℕ
 
-abbrev pub recordOf : Row → Record
-recordOf x =
-    record {
-      regs = 0 ∷ 0 ∷ 0 ∷ 0 ∷ x .r1 ∷ x .r2 ∷ 0 ∷ 0 ∷ 0 ∷ 0 ∷ 0 ∷ 0 ∷ 0 ∷ 0 ∷ 0 ∷ 0 ∷ [];
-      qifv = 0;
-      qifw = 0;
-      k = length (x .code);
-      m = length (x .code ++ x .words);
-      n = 0;
-      position = pos 0;
-    }
+abbrev pub nines : ℕ → List ℕ
+nines n = replicate n 9
 
--- the refusal; or 0, the cycles, r1 and r2 at the end, N, and the N nodes
-abbrev pub observed : Outcome View → List ℕ
-observed o =
-    byOutcome o (λ i. i ∷ [])
-    λ p z. 0 ∷ cycles p ∷ getD (z .regs) 4 0 ∷ getD (z .regs) 5 0 ∷ (1 + size p) ∷ drawn p 1 1 (replicate (nodeWords * (1 + size p)) 0)
+-- refusal, cycles, N and node; then the words of the nodes and of one node behind them
+abbrev pub observed : Row → List ℕ
+observed x =
+    let a = makeOf (x .state) (x .limit) (x .memory) (nines (x .table)) (nines (x .scratch)) in
+    let t = tableAfter (x .state) (x .limit) (x .memory) (nines (x .table)) (nines (x .scratch)) in
+    a .refusal ∷ a .cycles ∷ a .state .n ∷ a .state .qifv ∷ take (tableWords (a .state .n + 1)) t
 
 -- The statement: every row shows what it says
 abbrev pub Hold : List Row → Type 0
 Hold [] = Unit {0}
-Hold (x ∷ rest) = (observed (outcomeOf (recordOf x) (x .limit) (x .code ++ x .words)) ≡ x .shows) × Hold rest
+Hold (x ∷ rest) = (observed x ≡ x .shows) × Hold rest
 
--- a row without data words
-abbrev pub row : List ℕ → ℕ → ℕ → ℕ → List ℕ → Row
-row code a b limit l = record { code = code; words = []; r1 = a; r2 = b; limit = limit; shows = l }
+-- r1, r2 and r3; K and N; at node 5 and the largest position, which count for nothing; the memory
+abbrev pub at : ℕ → ℕ → ℕ → ℕ → ℕ → List ℕ → Record
+at a b c k n l =
+    record {
+      regs = 0 ∷ 0 ∷ 0 ∷ 0 ∷ a ∷ b ∷ c ∷ 0 ∷ 0 ∷ 0 ∷ 0 ∷ 0 ∷ 0 ∷ 0 ∷ 0 ∷ 0 ∷ [];
+      qifv = 5;
+      qifw = 0;
+      k = k;
+      m = length l;
+      n = n;
+      position = pos 9223372036854775807;
+    }
 
--- ---- programs
+-- a program without data words, with so many words of table and scratch as are enough
+abbrev pub row : ℕ → ℕ → List ℕ → ℕ → List ℕ → Row
+row a b l limit shows =
+    record { state = at a b 0 (length l) 0 l; memory = l; limit = limit; table = 4599; scratch = 16 * length l; shows = shows }
+
+-- with a data word behind it
+abbrev pub dataRow : ℕ → ℕ → ℕ → List ℕ → ℕ → ℕ → List ℕ → Row
+dataRow a b c l word limit shows =
+    record { state = at a b c (length l) 0 (l ++ word ∷ []); memory = l ++ word ∷ []; limit = limit; table = 4599; scratch = 16 * (length l + 1); shows = shows }
+
+-- start and finish, with N and lent words as they are given
+abbrev pub lent : ℕ → ℕ → ℕ → List ℕ → Row
+lent n t s shows =
+    let l : List ℕ = 0x1A000000 ∷ 0x1B000000 ∷ [] in
+    record { state = at 0 0 0 2 n l; memory = l; limit = 9; table = t; scratch = s; shows = shows }
+
+-- refused in the walk: no cycles, the record as it was, zeros
+abbrev pub refusedBy : ℕ → List ℕ
+refusedBy n = n ∷ 0 ∷ 0 ∷ 5 ∷ replicate 9 0
+
+-- accepted, at node 1, with zeros behind the nodes
+abbrev pub made : ℕ → ℕ → List ℕ → List ℕ
+made c n l = 0 ∷ c ∷ n ∷ 1 ∷ l ++ replicate 9 0
+
+-- ---- programs, and their nodes: a line each, fc0 fc1 lc0 lc1 cf cl nx pr w
 
 -- start, qif(r1), fiq(r1), finish
 abbrev pub bare : List ℕ
 bare = 0x1A000000 ∷ 0x18400000 ∷ 0x19400000 ∷ 0x1B000000 ∷ []
-
--- one qif on r1, of which coin 0 walks the words x and y and coin 1 jumps over them: bnz r1 3, x, y, bnz r1 3
-abbrev pub uneven : ℕ → ℕ → List ℕ
-uneven x y = 0x1A000000 ∷ 0x18400000 ∷ 0x07400003 ∷ x ∷ y ∷ 0x07400003 ∷ 0x19400000 ∷ 0x1B000000 ∷ []
-
--- a qif on r2 in both branches of one on r1
-abbrev pub nested : List ℕ
-nested = 0x1A000000 ∷ 0x18400000 ∷ 0x18500000 ∷ 0x19500000 ∷ 0x19400000 ∷ 0x1B000000 ∷ []
-
--- ---- tables: a line a node, fc0 fc1 lc0 lc1 cf cl nx pr w
 
 abbrev pub bareTable : List ℕ
 bareTable =
@@ -71,7 +84,10 @@ bareTable =
     ∷ 0 ∷ 0 ∷ 0 ∷ 0 ∷ 0 ∷ 0 ∷ 0 ∷ 1 ∷ 0
     ∷ []
 
--- coin 1 waits two cycles, at its first child
+-- one qif on r1: coin 0 walks the words x and y, coin 1 jumps over them and waits two cycles, at its first child
+abbrev pub uneven : ℕ → ℕ → List ℕ
+uneven x y = 0x1A000000 ∷ 0x18400000 ∷ 0x07400003 ∷ x ∷ y ∷ 0x07400003 ∷ 0x19400000 ∷ 0x1B000000 ∷ []
+
 abbrev pub unevenTable : List ℕ
 unevenTable =
     2 ∷ 3 ∷ 2 ∷ 3 ∷ 0 ∷ 0 ∷ 4 ∷ 0 ∷ 0
@@ -80,8 +96,24 @@ unevenTable =
     ∷ 0 ∷ 0 ∷ 0 ∷ 0 ∷ 0 ∷ 0 ∷ 0 ∷ 1 ∷ 0
     ∷ []
 
-abbrev pub nestedTable : List ℕ
-nestedTable =
+-- the same with coin 0 waiting; a uni and a unib in the branch of coin 1; behind the fiq an ldr that needs r1 as it was
+abbrev pub gates : List ℕ
+gates = 0x1A000000 ∷ 0x18400000 ∷ 0x06400003 ∷ 0x20500100 ∷ 0x21560200 ∷ 0x06400003 ∷ 0x19400000 ∷ 0x10640000 ∷ 0x1B000000 ∷ []
+
+abbrev pub gatesTable : List ℕ
+gatesTable =
+    2 ∷ 3 ∷ 2 ∷ 3 ∷ 0 ∷ 0 ∷ 4 ∷ 0 ∷ 0
+    ∷ 0 ∷ 0 ∷ 0 ∷ 0 ∷ 1 ∷ 1 ∷ 0 ∷ 0 ∷ 2
+    ∷ 0 ∷ 0 ∷ 0 ∷ 0 ∷ 1 ∷ 1 ∷ 0 ∷ 0 ∷ 0
+    ∷ 0 ∷ 0 ∷ 0 ∷ 0 ∷ 0 ∷ 0 ∷ 0 ∷ 1 ∷ 0
+    ∷ []
+
+-- a qif on r2 in both branches of one on r1
+abbrev pub inBoth : List ℕ
+inBoth = 0x1A000000 ∷ 0x18400000 ∷ 0x18500000 ∷ 0x19500000 ∷ 0x19400000 ∷ 0x1B000000 ∷ []
+
+abbrev pub inBothTable : List ℕ
+inBothTable =
     2 ∷ 3 ∷ 6 ∷ 9 ∷ 0 ∷ 0 ∷ 10 ∷ 0 ∷ 0
     ∷ 4 ∷ 5 ∷ 4 ∷ 5 ∷ 1 ∷ 0 ∷ 6 ∷ 0 ∷ 0
     ∷ 7 ∷ 8 ∷ 7 ∷ 8 ∷ 1 ∷ 0 ∷ 9 ∷ 0 ∷ 0
@@ -94,40 +126,69 @@ nestedTable =
     ∷ 0 ∷ 0 ∷ 0 ∷ 0 ∷ 0 ∷ 0 ∷ 0 ∷ 1 ∷ 0
     ∷ []
 
+-- in the branch of coin 0 alone, of unequal branches itself: coin 1 waits for its waits too
+abbrev pub inOne : List ℕ
+inOne =
+    0x1A000000 ∷ 0x18400000 ∷ 0x07400007 ∷ 0x18500000 ∷ 0x06500003 ∷ 0x03600001 ∷ 0x04600001 ∷ 0x06500003 ∷ 0x19500000 ∷ 0x07400007 ∷ 0x19400000 ∷ 0x1B000000 ∷ []
+
+abbrev pub inOneTable : List ℕ
+inOneTable =
+    2 ∷ 3 ∷ 6 ∷ 3 ∷ 0 ∷ 0 ∷ 7 ∷ 0 ∷ 0
+    ∷ 4 ∷ 5 ∷ 4 ∷ 5 ∷ 1 ∷ 0 ∷ 6 ∷ 0 ∷ 0
+    ∷ 0 ∷ 0 ∷ 0 ∷ 0 ∷ 1 ∷ 1 ∷ 0 ∷ 0 ∷ 6
+    ∷ 0 ∷ 0 ∷ 0 ∷ 0 ∷ 2 ∷ 2 ∷ 0 ∷ 0 ∷ 2
+    ∷ 0 ∷ 0 ∷ 0 ∷ 0 ∷ 2 ∷ 2 ∷ 0 ∷ 0 ∷ 0
+    ∷ 0 ∷ 0 ∷ 0 ∷ 0 ∷ 0 ∷ 1 ∷ 0 ∷ 2 ∷ 0
+    ∷ 0 ∷ 0 ∷ 0 ∷ 0 ∷ 0 ∷ 0 ∷ 0 ∷ 1 ∷ 0
+    ∷ []
+
 -- ---- the rows
 
 abbrev pub rows : List Row
 rows =
     -- start and finish: one cycle, one node without links; and no cycle allowed
-    row (0x1A000000 ∷ 0x1B000000 ∷ []) 0 0 1 (0 ∷ 1 ∷ 0 ∷ 0 ∷ 1 ∷ replicate 9 0)
-    ∷ row (0x1A000000 ∷ 0x1B000000 ∷ []) 0 0 0 (23 ∷ [])
-    -- start, the qif once and its fiq twice are four cycles; r1 gets back what it had
-    ∷ row bare 7 0 4 (0 ∷ 3 ∷ 7 ∷ 0 ∷ 4 ∷ bareTable)
-    ∷ row bare 7 0 3 (23 ∷ [])
-    -- xori r2 1, twice: ten cycles, of which seven for each coin
-    ∷ row (uneven 0x02500001 0x02500001) 0 0 10 (0 ∷ 7 ∷ 0 ∷ 0 ∷ 4 ∷ unevenTable)
-    ∷ row (uneven 0x02500001 0x02500001) 0 0 9 (23 ∷ [])
-    -- uni 1 of r2 idles, and one of para 9 is none
-    ∷ row (uneven 0x20500100 0x02500000) 0 6 10 (0 ∷ 7 ∷ 0 ∷ 6 ∷ 4 ∷ unevenTable)
-    ∷ row (uneven 0x20500900 0x02500000) 0 6 10 (13 ∷ [])
-    -- r2 differs at the fiq
-    ∷ row (uneven 0x02500001 0x02500000) 0 0 10 (24 ∷ [])
-    -- r2 is exchanged with the word at 8 and gets 5 again: the memory differs, unless it held 5
-    ∷ record { code = uneven 0x01500008 0x02500005; words = 0 ∷ []; r1 = 0; r2 = 5; limit = 10; shows = 24 ∷ [] }
-    ∷ record { code = uneven 0x01500008 0x02500000; words = 5 ∷ []; r1 = 0; r2 = 5; limit = 10; shows = 0 ∷ 7 ∷ 0 ∷ 5 ∷ 4 ∷ unevenTable }
+    row 0 0 (0x1A000000 ∷ 0x1B000000 ∷ []) 1 (made 1 1 (replicate 9 0))
+    ∷ row 0 0 (0x1A000000 ∷ 0x1B000000 ∷ []) 0 (refusedBy 23)
+    -- start, the qif once and its fiq twice are four cycles walked, and three for each coin
+    ∷ row 7 0 bare 4 (made 3 4 bareTable)
+    ∷ row 7 0 bare 3 (refusedBy 23)
+    -- xori r2 1, twice: ten walked, seven for each coin
+    ∷ row 0 0 (uneven 0x02500001 0x02500001) 10 (made 7 4 unevenTable)
+    ∷ row 0 0 (uneven 0x02500001 0x02500001) 9 (refusedBy 23)
+    -- uni and unib idle, and a uni of para 9 is none
+    ∷ row 0 6 (uneven 0x20500100 0x02500000) 10 (made 7 4 unevenTable)
+    ∷ row 0 6 (uneven 0x20500900 0x02500000) 10 (refusedBy 13)
+    ∷ dataRow 9 0 1 gates 77 11 (made 8 4 gatesTable)
+    ∷ dataRow 9 0 1 gates 77 10 (refusedBy 23)
+    -- r2 differs at the fiq; r2 is exchanged with the word at 8: the memory differs, unless it held the same
+    ∷ row 0 0 (uneven 0x02500001 0x02500000) 10 (refusedBy 24)
+    ∷ dataRow 0 5 0 (uneven 0x01500008 0x02500005) 0 10 (refusedBy 24)
+    ∷ dataRow 0 5 0 (uneven 0x01500008 0x02500000) 5 10 (made 7 4 unevenTable)
     -- qifs in qifs: nodes are numbered as they are made
-    ∷ row nested 3 4 10 (0 ∷ 5 ∷ 3 ∷ 4 ∷ 10 ∷ nestedTable)
-    ∷ row nested 3 4 9 (23 ∷ [])
-    -- at one word, with the limit used up: 17 of a fiq in no branch, 12 of a finish in one, 18 at a qif and at branch 0's fiq
-    ∷ row (0x1A000000 ∷ 0x19400000 ∷ 0x1A000000 ∷ []) 0 0 1 (17 ∷ [])
-    ∷ row (0x1A000000 ∷ 0x18400000 ∷ 0x1B000000 ∷ []) 0 0 2 (12 ∷ [])
-    ∷ row (0x1A000000 ∷ 0x18400000 ∷ 0x1A000000 ∷ []) 0 0 1 (18 ∷ [])
-    ∷ row (0x1A000000 ∷ 0x18400000 ∷ 0x19400000 ∷ 0x1A000000 ∷ []) 0 0 2 (18 ∷ [])
-    -- 23 before 24 at a fiq of r2
-    ∷ row (0x1A000000 ∷ 0x18400000 ∷ 0x19500000 ∷ 0x1B000000 ∷ []) 0 0 2 (23 ∷ [])
-    ∷ row (0x1A000000 ∷ 0x18400000 ∷ 0x19500000 ∷ 0x1B000000 ∷ []) 0 0 3 (24 ∷ [])
+    ∷ row 3 4 inBoth 10 (made 5 10 inBothTable)
+    ∷ row 3 4 inBoth 9 (refusedBy 23)
+    ∷ row 7 5 inOne 17 (made 11 7 inOneTable)
+    ∷ row 7 5 inOne 16 (refusedBy 23)
+    -- eight in each other, and then no instruction; nine
+    ∷ row 0 0 (0x1A000000 ∷ replicate 8 0x18400000 ++ 0 ∷ []) 99 (refusedBy 13)
+    ∷ row 0 0 (0x1A000000 ∷ replicate 9 0x18400000) 99 (refusedBy 23)
+    -- with the limit used up: 17 of a fiq in no branch, 12 of a finish in one, 18 at a qif and at branch 0's fiq, 13
+    ∷ row 0 0 (0x1A000000 ∷ 0x19400000 ∷ 0x1A000000 ∷ []) 1 (refusedBy 17)
+    ∷ row 0 0 (0x1A000000 ∷ 0x18400000 ∷ 0x1B000000 ∷ []) 2 (refusedBy 12)
+    ∷ row 0 0 (0x1A000000 ∷ 0x18400000 ∷ 0x1A000000 ∷ []) 1 (refusedBy 18)
+    ∷ row 0 0 (0x1A000000 ∷ 0x18400000 ∷ 0x19400000 ∷ 0x1A000000 ∷ []) 2 (refusedBy 18)
+    ∷ row 0 0 (0x1A000000 ∷ 0x20500200 ∷ []) 1 (refusedBy 13)
+    -- 23 before 24 at a fiq of r2, which holds 0, and then the coin itself
+    ∷ row 0 0 (0x1A000000 ∷ 0x18400000 ∷ 0x19500000 ∷ 0x1B000000 ∷ []) 2 (refusedBy 23)
+    ∷ row 0 0 (0x1A000000 ∷ 0x18400000 ∷ 0x19500000 ∷ 0x1B000000 ∷ []) 3 (refusedBy 24)
+    ∷ row 0 0 (0x1A000000 ∷ 0x18400000 ∷ 0x13540000 ∷ 0x13450000 ∷ 0x19500000 ∷ 0x1B000000 ∷ []) 5 (refusedBy 24)
     -- pc behind the code, no instruction, and an exchange with a code word
-    ∷ row (0x1A000000 ∷ []) 0 0 9 (11 ∷ [])
-    ∷ row (0x1A000000 ∷ 0 ∷ []) 0 0 9 (13 ∷ [])
-    ∷ row (0x1A000000 ∷ 0x01500000 ∷ []) 0 0 9 (15 ∷ [])
+    ∷ row 0 0 (0x1A000000 ∷ []) 9 (refusedBy 11)
+    ∷ row 0 0 (0x1A000000 ∷ 0 ∷ []) 9 (refusedBy 13)
+    ∷ row 0 0 (0x1A000000 ∷ 0x01500000 ∷ []) 9 (refusedBy 15)
+    -- 10 before 22; 22 for a node, a table one word short and a scratch one word short: nothing is written
+    ∷ lent 1 8 32 (10 ∷ 0 ∷ 1 ∷ 5 ∷ nines 8)
+    ∷ lent 1 4599 32 (22 ∷ 0 ∷ 1 ∷ 5 ∷ nines 18)
+    ∷ lent 0 4598 32 (22 ∷ 0 ∷ 0 ∷ 5 ∷ nines 9)
+    ∷ lent 0 4599 31 (22 ∷ 0 ∷ 0 ∷ 5 ∷ nines 9)
     ∷ []
