@@ -15,10 +15,8 @@ use Rattle.machine.specs.Turn.{starts}
 use Rattle.machine.specs.declared.Record.{Record}
 use Rattle.machine.specs.Calls.{statusOf, wrongSizes}
 use Rattle.maker.specs.declared.Made.{Made}
-use Rattle.maker.specs.Making.{branchAt}
-use Rattle.maker.specs.Idle.{machine}
-use Rattle.maker.specs.Parts.{viewAt, Sized}
-use Rattle.maker.specs.Make.{mostWords, scratchWords, canBegin, refusalOf, outcomeOf, madeAs, answerOf, drawnBy, MakePromise}
+use Rattle.maker.specs.Parts.{Sized}
+use Rattle.maker.specs.Make.{mostWords, walkOver, scratchWords, canBegin, refusalOf, outcomeOf, madeAs, answerOf, drawnBy, MakePromise}
 use Rattle.word.proofs.Words.{and-true}
 use Rattle.maker.proofs.Counts.{not-first, not-second}
 
@@ -75,7 +73,7 @@ module _ (r : Record) (limit : ℕ) (mem table scratch : List ℕ) where
       record {
         answer = q ∙ (ap (λ (i : ℕ). madeAs i 0 r) e ∙ sym (ap (λ (b : Bool). pick b (answerOf r (outcomeOf r limit mem)) (madeAs (refusalOf r mem table scratch) 0 r)) no));
         memory = refl;
-        drawn = sym (ap (λ (b : Bool). pick b (drawnBy (outcomeOf r limit mem) ++ drop mostWords table) table) no);
+        nodes = sym (ap (λ (b : Bool). pick b (drawnBy (outcomeOf r limit mem) ++ drop mostWords table) table) no);
         behind = refl;
         untouched = λ z. refl;
       }
@@ -83,8 +81,8 @@ module _ (r : Record) (limit : ℕ) (mem table scratch : List ℕ) where
   -- ---- the walk, over the fronts
 
   pub made-promise : refusalOf r mem table scratch ≡ 0 → (a : Made) (m t s : List ℕ)
-      → a ≡ answerOf r (branchAt machine limit 8 false 1 0 (viewAt (r .k) (r .m) (r .regs) (take (r .m) mem)))
-      → t ≡ drawnBy (branchAt machine limit 8 false 1 0 (viewAt (r .k) (r .m) (r .regs) (take (r .m) mem)))
+      → a ≡ answerOf r (walkOver r limit (take (r .m) mem))
+      → t ≡ drawnBy (walkOver r limit (take (r .m) mem))
       → m ≡ take (r .m) mem → length s ≡ 16 * r .m
       → MakePromise r limit mem table scratch a (m ++ drop (r .m) mem) (t ++ drop mostWords table) (s ++ drop (scratchWords r) scratch)
   unfolding outcomeOf
@@ -93,7 +91,7 @@ module _ (r : Record) (limit : ℕ) (mem table scratch : List ℕ) where
       record {
         answer = p ∙ sym (ap (λ (b : Bool). pick b (answerOf r (outcomeOf r limit mem)) (madeAs (refusalOf r mem table scratch) 0 r)) yes);
         memory = ap (λ (x : List ℕ). x ++ drop (r .m) mem) f ∙ take-append-drop (r .m) mem;
-        drawn = ap (λ (x : List ℕ). x ++ drop mostWords table) q
+        nodes = ap (λ (x : List ℕ). x ++ drop mostWords table) q
             ∙ sym (ap (λ (b : Bool). pick b (drawnBy (outcomeOf r limit mem) ++ drop mostWords table) table) yes);
         behind = ap (λ (i : ℕ). drop i (s ++ drop (scratchWords r) scratch)) (sym l) ∙ drop-append-seam s (drop (scratchWords r) scratch);
         untouched = λ h. absurd (h e);

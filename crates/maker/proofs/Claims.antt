@@ -190,7 +190,7 @@ module _ {r : Record} {limit : ℕ} {mem table scratch : List ℕ} {a : Made} {m
   told : (b : Bool) → eqb start 0 ≡ b → (a ≡ pick b (answerOf r o) (madeAs start 0 r)) × (table′ ≡ pick b (drawnBy o ++ drop mostWords table) table)
   told b e = (
     m .answer ∙ ap (λ (b : Bool). pick b (answerOf r o) (madeAs start 0 r)) e,
-    m .drawn ∙ ap (λ (b : Bool). pick b (drawnBy o ++ drop mostWords table) table) e,
+    m .nodes ∙ ap (λ (b : Bool). pick b (drawnBy o ++ drop mostWords table) table) e,
   )
 
   -- a call that is refused at once, refused in the walk, or accepted

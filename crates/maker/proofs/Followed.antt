@@ -26,7 +26,6 @@ use Rattle.maker.proofs.Guided.Next.{stuck, moved}
 use Rattle.maker.specs.Idle.{placed, on, lands, lookAt, coinAt, machine}
 use Rattle.maker.specs.Follow.{Saved, saved, Walker, Went, walker, cycle, follows, byWent}
 use Rattle.maker.specs.Follow.Went.{went}
-use Rattle.word.proofs.Words.{and-true}
 use Rattle.maker.proofs.Choices.{Holds}
 use Rattle.maker.proofs.Looked.{at-plain, last-is}
 use Rattle.maker.proofs.Lawful.{machine-lawful}

@@ -13,11 +13,11 @@ use Rattle.step.specs.View.{View}
 use Rattle.maker.proofs.Counts.{cycles-used, not-first, not-second}
 use Rattle.word.proofs.Words.{and-true}
 use Rattle.maker.specs.Walk.{Walk, size, used, cycles, ending, linked, drawn, forkSize, forkUsed, forkCycles, forkLinked, lack}
-use Rattle.maker.specs.Making.{Outcome, Forks, unless, byOutcome, closing, meeting, forkBy, forkAt, branchAt}
+use Rattle.maker.specs.Making.{Outcome, Forks, unless, byOutcome, opening, closing, meeting, forkBy, forkAt, branchAt}
 use Rattle.maker.specs.Making.Outcome.{refused, ended}
 use Rattle.maker.specs.Making.Forks.{failed, forked}
 use Rattle.maker.specs.Idle.{machine, lands, sameWords, sameView}
-use Rattle.maker.specs.Parts.{viewAt, coinIn, heldOf, entered, left, refusedBy, walkedAt, walkedOf, Shown, ShownFork, openingOf, closingOf, meetingOf}
+use Rattle.maker.specs.Parts.{viewAt, coinIn, heldOf, entered, left, refusedBy, walkedAt, walkedOf, Shown, ShownFork, closingOf, meetingOf}
 use Rattle.maker.specs.declared.Walked.{Walked}
 use Rattle.maker.proofs.Copies.{same-is}
 
@@ -40,7 +40,7 @@ ends o f p s e = rw e
 
 -- ---- what the tests give
 
-pub opened : (limit n u : ℕ) → openingOf limit n u ≡ 0 → (u < limit) × (n ≤ 509)
+pub opened : (limit n u : ℕ) → opening machine limit n u ≡ 0 → (u < limit) × (n ≤ 509)
 opened limit n u e =
     let x = not-first (leb limit u) 22 (pick (ltb 509 n) 23 0) e in
     (leb-false limit u (x .0), ltb-false 509 n (not-first (ltb 509 n) 22 0 (x .1) .0))
@@ -134,7 +134,7 @@ module _ (k w limit nest : ℕ) (from : Walked) (m₀ t : List ℕ) where
       ∙ ap₂ (λ (i j : ℕ). walkedAt x (u + forkUsed a b) i j j) (omega arith) (noded a b)
 
   module _ (deeper : ¬ (nest ≡ 0)) where
-    pub shut : (i : ℕ) (r : Walked) (l z : List ℕ) → i ≡ openingOf limit n u → ¬ (i ≡ 0) → r ≡ refusedBy i → Answers whole r l z
+    pub shut : (i : ℕ) (r : Walked) (l z : List ℕ) → i ≡ opening machine limit n u → ¬ (i ≡ 0) → r ≡ refusedBy i → Answers whole r l z
     unfolding forkBy
     shut i r l z e h q = out r l z (opens deeper ∙ stops _ i _ e h) (q, h)
 
@@ -142,7 +142,7 @@ module _ (k w limit nest : ℕ) (from : Walked) (m₀ t : List ℕ) where
     abbrev pub First : Walked → List ℕ → List ℕ → Type 0
     First r l z = Shown k w (deep (n + 2) (u + 1) (start 0)) (n + 1) (n + 2) (u + 1) t r l z
 
-    module _ (open-0 : openingOf limit n u ≡ 0) where
+    module _ (open-0 : opening machine limit n u ≡ 0) where
       pub refused₀ : (r : Walked) (l z y : List ℕ) → First r l z → ¬ (r .refusal ≡ 0) → Answers whole r l y
       unfolding forkBy
       refused₀ r l z y h i = go (deep (n + 2) (u + 1) (start 0)) refl h

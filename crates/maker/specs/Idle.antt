@@ -68,11 +68,12 @@ on s = atPc s (shifted Forward (pc s) (stride (br s)))
 abbrev pub lands : View → Bool
 lands s = starts (s .at) (s .memory) (shifted Forward (pc s) (stride (br s)))
 
--- the machine's own attempt of a word that is no qif or fiq, without a table
+-- where an attempt leads
 abbrev pub ledTo : View → Attempt → Look View
 ledTo s (Refused n) = halts n
 ledTo s (Does e) = goes (to Forward (performed e s))
 
+-- the machine's own attempt of a word that is no qif or fiq, without a table, with 18 behind it
 abbrev pub plain : Op → View → Look View
 plain o s = ledTo s (landed Forward s (attempt [] Forward o s))
 
@@ -107,6 +108,8 @@ sameStatus x y =
 abbrev pub sameView : View → View → Bool
 sameView s z = sameWords (s .regs) (z .regs) && (sameWords (s .memory) (z .memory) && sameStatus (s .at) (z .at))
 
+-- two branches are compared behind their fiq, where pc has moved on by br and the coin register is restored: br is compared too, so
+-- that they are the same there exactly where they differ at the fiq in nothing but that register
 abbrev pub machine : Walkable View
 machine =
     record {

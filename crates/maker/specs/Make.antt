@@ -42,8 +42,12 @@ refusalOf r mem table scratch = pick (wrongSizes r mem table) 10 (pick (canBegin
 
 -- ---- the walk: from node 1, the only one made, with no cycle used and a nesting of eight
 
+-- over exactly M words of memory
+abbrev pub walkOver : Record → ℕ → List ℕ → Outcome View
+walkOver r limit words = branchAt machine limit 8 false 1 0 (viewAt (r .k) (r .m) (r .regs) words)
+
 unfoldable pub outcomeOf : Record → ℕ → List ℕ → Outcome View
-outcomeOf r limit mem = branchAt machine limit 8 false 1 0 (viewAt (r .k) (r .m) (r .regs) (take (r .m) mem))
+outcomeOf r limit mem = walkOver r limit (take (r .m) mem)
 
 -- ---- the answer
 
@@ -77,7 +81,7 @@ tableAfter r limit mem table scratch =
 pub record MakePromise (r : Record) (limit : ℕ) (mem table scratch : List ℕ) (a : Made) (mem′ table′ scratch′ : List ℕ) : Type 0 where
   pub answer : a ≡ makeOf r limit mem table scratch
   pub memory : mem′ ≡ mem
-  pub drawn : table′ ≡ tableAfter r limit mem table scratch
+  pub nodes : table′ ≡ tableAfter r limit mem table scratch
   -- behind its first 16 M words the scratch is as it was, and all of it is after 10 and 22
   pub behind : drop (scratchWords r) scratch′ ≡ drop (scratchWords r) scratch
   pub untouched : (refusalOf r mem table scratch ≡ 0 → ⊥) → scratch′ ≡ scratch

@@ -66,7 +66,8 @@ module _ {S : Type 0} (M : Walkable S) (limit : ℕ) where
       unless (meeting s (n + 2 + size a + size b) (u + 1 + used a + 1 + used b) s₀ s₁)
       (forked a b (M .after s s₀))))
 
-  -- a branch, over what a qif does: p is the walk so far, from n nodes made and u cycles used
+  -- a branch, or where it is not inside one the whole walk, over what a qif does: p is the walk so far, from n nodes made and u cycles
+  -- used. The first number is the words that may still be looked at: one more than the limit are enough, since each uses a cycle
   unfoldable pub walkBy : (ℕ → ℕ → S → Forks S) → Bool → ℕ → ℕ → ℕ → Walk → S → Outcome S
   walkBy qif inside zero n u p s = refused 23
   walkBy qif inside (suc f) n u p s =

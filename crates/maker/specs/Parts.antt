@@ -94,10 +94,7 @@ ShownFork k w (failed i) v n u t r l z = (r ≡ refusedBy i) × ¬ (i ≡ 0)
 ShownFork k w (forked a b x) v n u t r l z =
     (r ≡ walkedAt (r .regs) (u + forkUsed a b) (forkCycles a b) (n + forkSize a b) (n + forkSize a b)) × (l ≡ forkDrawn v n a b t) × (x ≡ viewAt k w (r .regs) z)
 
--- ---- the tests of a qif whose register is a
-
-abbrev pub openingOf : ℕ → ℕ → ℕ → ℕ
-openingOf limit n u = pick (leb limit u) 23 (pick (ltb 509 n) 23 0)
+-- ---- the tests of a qif whose register is a, of registers and memory as the code holds them
 
 abbrev pub heldOf : ℕ → ℕ → List ℕ → List ℕ → Bool
 heldOf a x l z = eqb a (coinIn l z) && eqb (getD l (coinIn l z) 0) x

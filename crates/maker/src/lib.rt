@@ -7,7 +7,7 @@ ghost use Rattle.machine.specs.Calls.{statusOf, wrongSizes};
 ghost use Rattle.maker.specs.Making.{branchAt};
 ghost use Rattle.maker.specs.Idle.{machine};
 ghost use Rattle.maker.specs.Parts.{viewAt, Sized};
-ghost use Rattle.maker.specs.Make.{canBegin, refusalOf, madeAs, withTable, answerOf, drawnBy, MakePromise};
+ghost use Rattle.maker.specs.Make.{mostWords, scratchWords, walkOver, canBegin, refusalOf, madeAs, withTable, answerOf, drawnBy, MakePromise};
 
 mod copy;
 mod draw;
@@ -101,10 +101,10 @@ fn walk_whole(
     table: &mut [u32],
     scratch: &mut [u32],
 ) -> Made
-    requires { ⌜ Sized (r .k) (r .m) (length (now mem)) × (16 * r .m ≤ length (now scratch)) × (length (now table) ≡ 4599) ⌝ }
+    requires { ⌜ Sized (r .k) (r .m) (length (now mem)) × (scratchWords r ≤ length (now scratch)) × (length (now table) ≡ mostWords) ⌝ }
     ensures { λ a.
-        ⌜ (a ≡ answerOf r (branchAt machine limit 8 false 1 0 (viewAt (r .k) (r .m) (r .regs) (now (mem .entry)))))
-        × (now (table .exit) ≡ drawnBy (branchAt machine limit 8 false 1 0 (viewAt (r .k) (r .m) (r .regs) (now (mem .entry)))))
+        ⌜ (a ≡ answerOf r (walkOver r limit (now (mem .entry))))
+        × (now (table .exit) ≡ drawnBy (walkOver r limit (now (mem .entry))))
         × (now (mem .exit) ≡ now (mem .entry)) ⌝ }
 {
     copy::clear(table);

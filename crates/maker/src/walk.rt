@@ -5,9 +5,9 @@ ghost use mathlib.Core.Bool.{_&&_};
 ghost use Prim.Native.Nat.{_+_, _-_, _≤_, _<_};
 ghost use lib.ListN.{length, take};
 ghost use Rattle.maker.specs.Walk.{linked};
-ghost use Rattle.maker.specs.Making.{branchAt, forkAt};
+ghost use Rattle.maker.specs.Making.{opening, branchAt, forkAt};
 ghost use Rattle.maker.specs.Idle.{machine, sameWords};
-ghost use Rattle.maker.specs.Parts.{viewAt, entered, left, coinIn, heldOf, Sized, Room, refusedBy, walkedAt, Shown, ShownFork, openingOf, closingOf, meetingOf};
+ghost use Rattle.maker.specs.Parts.{viewAt, entered, left, coinIn, heldOf, Sized, Room, refusedBy, walkedAt, Shown, ShownFork, closingOf, meetingOf};
 use crate::Seen;
 use crate::Walked;
 use crate::copy::copy;
@@ -72,7 +72,7 @@ fn leave(at: Walked, a: usize, old: u32) -> [u32; 16]
 // ---- the tests of a qif
 
 fn opening(limit: u32, from: Walked) -> u32
-    ensures { λ r. ⌜ r ≡ openingOf limit (from .nodes) (from .used) ⌝ }
+    ensures { λ r. ⌜ r ≡ opening machine limit (from .nodes) (from .used) ⌝ }
 {
     if limit <= from.used {
         return 23;

@@ -9,8 +9,9 @@ use lib.ListN.{length, getD}
 use denote.Ref.{now}
 use borrow.Author.Needs.{needs}
 use Rattle.maker.specs.declared.Walked.{Walked}
-use Rattle.maker.specs.Parts.{Room, walkedAt, coinIn, entered, left, openingOf, closingOf, meetingOf}
-use Rattle.maker.specs.Idle.{sameWords}
+use Rattle.maker.specs.Parts.{Room, walkedAt, coinIn, entered, left, closingOf, meetingOf}
+use Rattle.maker.specs.Making.{opening}
+use Rattle.maker.specs.Idle.{sameWords, machine}
 use Rattle.maker.proofs.Copies.{put-back, told-same}
 use Rattle.maker.proofs.Rooms.{fits, as-long, deeper, sized}
 use Rattle.maker.proofs.Forking.{First, Then, Came₀, Came₁, none, shut, refused₀, came₀, shut₀, refused₁, came₁, shut₁, done, short, opened, shut-below, met-below}
@@ -162,7 +163,7 @@ room t c =
 is-open : (t : ℕ) (c : fork-lts.Else2 (fork-said t) (fork-at t) fork.Post) →
     let start′ = begin-of t (c .before .before) in
     let g = start′ .args in
-    openingOf (g .limit) (g .from .nodes) (g .from .used) ≡ 0
+    opening machine (g .limit) (g .from .nodes) (g .from .used) ≡ 0
 is-open t c =
     let opening′ = c .before in
     sym (opening′ .opening .ensures) ∙ c .if2 .left
