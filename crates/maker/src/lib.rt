@@ -1,12 +1,9 @@
 // The qif table of a program, made by walking it through both branches of every qif, uni and unib idle.
 ghost use mathlib.Core.Path.{_≡_};
-ghost use mathlib.Core.Bool.{false, _&&_};
-ghost use Prim.Native.Nat.{_+_, _*_, _≤_};
-ghost use lib.ListN.{length, take, drop, replicate};
-ghost use Rattle.machine.specs.Calls.{statusOf, wrongSizes};
-ghost use Rattle.maker.specs.Making.{branchAt};
-ghost use Rattle.maker.specs.Idle.{machine};
-ghost use Rattle.maker.specs.Parts.{viewAt, Sized};
+ghost use mathlib.Core.Bool.{false};
+ghost use Prim.Native.Nat.{_*_, _≤_};
+ghost use lib.ListN.{length};
+ghost use Rattle.maker.specs.Parts.{Sized};
 ghost use Rattle.maker.specs.Make.{mostWords, scratchWords, walkOver, canBegin, refusalOf, madeAs, withTable, answerOf, drawnBy, MakePromise};
 
 mod copy;

@@ -7,7 +7,7 @@ ghost use lib.ListN.{length, take};
 ghost use Rattle.maker.specs.Walk.{linked};
 ghost use Rattle.maker.specs.Making.{opening, branchAt, forkAt};
 ghost use Rattle.maker.specs.Idle.{machine, sameWords};
-ghost use Rattle.maker.specs.Parts.{viewAt, entered, left, coinIn, heldOf, Sized, Room, refusedBy, walkedAt, Shown, ShownFork, closingOf, meetingOf};
+ghost use Rattle.maker.specs.Parts.{viewAt, entered, left, heldOf, Sized, Room, refusedBy, walkedAt, Shown, ShownFork, closingOf, meetingOf};
 use crate::Seen;
 use crate::Walked;
 use crate::copy::copy;
@@ -269,13 +269,14 @@ pub fn fork(
     let old = look(&s, c);
     let words = mem.len();
     copy(mem, scratch);
+    let one = enter(from, c, 0, from.used + 1, from.nodes + 2, from.nodes + 1);
     let a = branch(
         k,
         m,
         limit,
         nest - 1,
         true,
-        enter(from, c, 0, from.used + 1, from.nodes + 2, from.nodes + 1),
+        one,
         mem,
         &mut scratch[words..],
         table,
@@ -288,13 +289,14 @@ pub fn fork(
         return refuse(shut);
     }
     exchange(mem, scratch);
+    let two = enter(from, c, 1, a.used + 1, a.nodes, from.nodes + 2);
     let b = branch(
         k,
         m,
         limit,
         nest - 1,
         true,
-        enter(from, c, 1, a.used + 1, a.nodes, from.nodes + 2),
+        two,
         mem,
         &mut scratch[words..],
         table,
