@@ -5,7 +5,7 @@ ghost use lib.ListN.{length, take, replicate};
 ghost use Rattle.maker.specs.Idle.{sameWords};
 
 // The front of b becomes a.
-pub fn copy(a: &[u32], b: &mut [u32])
+pub(crate) fn copy(a: &[u32], b: &mut [u32])
     requires { ⌜ length (now a) ≤ length (now b) ⌝ }
     ensures { λ _. ⌜ take (length (now (a .entry))) (now (b .exit)) ≡ now (a .entry) ⌝ }
 {
@@ -17,7 +17,7 @@ pub fn copy(a: &[u32], b: &mut [u32])
 }
 
 // a and the front of b.
-pub fn exchange(a: &mut [u32], b: &mut [u32])
+pub(crate) fn exchange(a: &mut [u32], b: &mut [u32])
     requires { ⌜ length (now a) ≤ length (now b) ⌝ }
     ensures { λ _.
         ⌜ (now (a .exit) ≡ take (length (now (a .entry))) (now (b .entry)))
@@ -33,7 +33,7 @@ pub fn exchange(a: &mut [u32], b: &mut [u32])
 }
 
 // a is the front of b.
-pub fn same_words(a: &[u32], b: &[u32]) -> bool
+pub(crate) fn same_words(a: &[u32], b: &[u32]) -> bool
     requires { ⌜ length (now a) ≤ length (now b) ⌝ }
     ensures { λ r. ⌜ r ≡ sameWords (take (length (now (a .entry))) (now (b .entry))) (now (a .entry)) ⌝ }
 {
@@ -47,7 +47,7 @@ pub fn same_words(a: &[u32], b: &[u32]) -> bool
     true
 }
 
-pub fn clear(table: &mut [u32])
+pub(crate) fn clear(table: &mut [u32])
     ensures { λ _. ⌜ now (table .exit) ≡ replicate (length (now (table .entry))) 0 ⌝ }
 {
     let mut i = 0;

@@ -36,7 +36,17 @@ fn write_pair(table: &mut [u32], v: u32, f: usize, u: u32, g: usize)
 }
 
 // At node v: a and b its first children, with the waits x and y, e and f its last, m the next.
-pub fn link_up(table: &mut [u32], v: u32, a: u32, b: u32, e: u32, f: u32, m: u32, x: u32, y: u32)
+pub(crate) fn link_up(
+    table: &mut [u32],
+    v: u32,
+    a: u32,
+    b: u32,
+    e: u32,
+    f: u32,
+    m: u32,
+    x: u32,
+    y: u32,
+)
     ensures { λ _. ⌜ now (table .exit) ≡ linked v a b e f m x y (now (table .entry)) ⌝ }
 {
     write_pair(table, v, first_child(0), a, CF);

@@ -52,7 +52,7 @@ fn coin_of(kind: Kind) -> usize
 }
 
 // The register that the qif or fiq at pc names.
-pub fn coin_at(m: u32, regs: &[u32], mem: &[u32]) -> usize
+pub(crate) fn coin_at(m: u32, regs: &[u32], mem: &[u32]) -> usize
     requires { ⌜ length (now mem) ≡ m ⌝ }
     ensures { λ r. ⌜ r ≡ coinIn (now (regs .entry)) (now (mem .entry)) ⌝ }
 {
@@ -60,7 +60,7 @@ pub fn coin_at(m: u32, regs: &[u32], mem: &[u32]) -> usize
 }
 
 // 18: the word behind the one at pc is start.
-pub fn is_before_start(k: u32, m: u32, regs: &[u32], mem: &[u32]) -> bool
+pub(crate) fn is_before_start(k: u32, m: u32, regs: &[u32], mem: &[u32]) -> bool
     requires { ⌜ length (now mem) ≡ m ⌝ }
     ensures { λ r. ⌜ r ≡ lands (viewAt k m (now (regs .entry)) (now (mem .entry))) ⌝ }
 {
@@ -69,7 +69,7 @@ pub fn is_before_start(k: u32, m: u32, regs: &[u32], mem: &[u32]) -> bool
     word::both(next < k, word_at(mem, m, next) == qins::START)
 }
 
-pub fn move_on(regs: &mut [u32])
+pub(crate) fn move_on(regs: &mut [u32])
     ensures { λ _. ⌜ now (regs .exit) ≡ movedOn (now (regs .entry)) ⌝ }
 {
     let br = look(regs, 1);
@@ -142,7 +142,7 @@ fn plain_turn(k: u32, m: u32, w: u32, regs: [u32; 16], mem: &mut [u32]) -> Advan
 }
 
 // What stands at pc, with the turn made where it leads on.
-pub fn advance(k: u32, m: u32, regs: [u32; 16], mem: &mut [u32]) -> Advanced
+pub(crate) fn advance(k: u32, m: u32, regs: [u32; 16], mem: &mut [u32]) -> Advanced
     requires { ⌜ Sized k m (length (now mem)) ⌝ }
     ensures { λ r. ⌜ Looks k m (now (mem .entry)) (r .seen) (lookAt (viewAt k m regs (now (mem .entry)))) (r .regs) (now (mem .exit)) ⌝ }
 {

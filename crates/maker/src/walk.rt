@@ -36,7 +36,7 @@ fn refuse(k: u32) -> Walked
     }
 }
 
-pub fn walked_at(regs: [u32; 16], used: u32, cycles: u32, nodes: u32, node: u32) -> Walked
+pub(crate) fn walked_at(regs: [u32; 16], used: u32, cycles: u32, nodes: u32, node: u32) -> Walked
     ensures { λ r. ⌜ r ≡ walkedAt regs used cycles nodes node ⌝ }
 {
     Walked {
@@ -182,7 +182,7 @@ fn join(from: Walked, a: Walked, b: Walked, regs: [u32; 16], table: &mut [u32]) 
 
 // ---- the walks
 
-pub fn branch(
+pub(crate) fn branch(
     k: u32,
     m: u32,
     limit: u32,
@@ -242,7 +242,7 @@ pub fn branch(
 
 // The memory of the start is saved in the front of the scratch, and that of branch 0's end in its place;
 // the branches have the scratch behind it.
-pub fn fork(
+pub(crate) fn fork(
     k: u32,
     m: u32,
     limit: u32,
