@@ -85,8 +85,8 @@ typedef struct Checked {
 /* What the making of a qif table answers. */
 typedef struct Made {
     uint32_t refusal;
-    uint32_t cycles; /* of such a walk over the new table, from start to finish and with its waits: the
-                        same for every choice of coins; refused: 0 */
+    uint32_t cycles; /* of a walk over the new table, from start to finish with its waits, uni and unib
+                        idle: the same for every choice of coins; refused: 0 */
     Record state;    /* the record given, with the new n and qifv 1; refused: the record given */
 } Made;
 
@@ -230,8 +230,9 @@ uint32_t crank_check_node(Record r, uint32_t node, const uint32_t *mem, size_t m
 
 /* Makes the qif table of the code: walks it from the start at pc to finish, through both branches of
  * every qif, from what the registers and mem hold, with uni and unib moving pc alone and the position
- * still. A qif sets its register to 0 and to 1, whatever it holds, which is back behind its fiq. limit
- * is on all cycles walked: every word of both branches, the qif once for both; no waits, no finish.
+ * still. At a qif its register is set to 0 for one branch and to 1 for the other, whatever it held;
+ * behind the fiq it holds that again. limit is on all cycles walked: every word of both branches, the
+ * qif once for both; no waits, no finish.
  *
  * Accepted: the first 4599 words of table hold the n nodes of the answer, and zeros behind them. mem is
  * written on the way and ends as it began, refused or not. What the first 16 * m words of scratch then
@@ -242,8 +243,8 @@ uint32_t crank_check_node(Record r, uint32_t node, const uint32_t *mem, size_t m
  * walk, after which the first 4599 words of table are zeros. At one word the turn's own come first, in
  * its order: 11, 12 (a finish in a branch), 13, 15, 17 (a fiq in no branch) and 18. Then 23, where over
  * 511 nodes, 8 nested qifs or limit cycles would be needed. Last 24, where a branch's fiq names another
- * register than its qif, or that does not hold the branch's coin, or the two branches stand at their
- * fiq with anything else in registers or mem that differs. */
+ * register than its qif, or that does not hold the branch's coin, or the two branches differ at their
+ * fiq in anything else of registers or mem. */
 Made crank_make_table(Record r, uint32_t limit, uint32_t *mem, size_t mem_len,
                       uint32_t *table, size_t table_len, uint32_t *scratch, size_t scratch_len);
 

@@ -178,7 +178,7 @@ rows =
     ∷ row 0 0 (0x1A000000 ∷ 0x18400000 ∷ 0x1A000000 ∷ []) 1 (refusedBy 18)
     ∷ row 0 0 (0x1A000000 ∷ 0x18400000 ∷ 0x19400000 ∷ 0x1A000000 ∷ []) 2 (refusedBy 18)
     ∷ row 0 0 (0x1A000000 ∷ 0x20500200 ∷ []) 1 (refusedBy 13)
-    -- 23 before 24 at a fiq of r2, which holds 0, and then the coin itself
+    -- 23 before 24 at a fiq of r2, which holds 0; and at one of r2 that was given the coin
     ∷ row 0 0 (0x1A000000 ∷ 0x18400000 ∷ 0x19500000 ∷ 0x1B000000 ∷ []) 2 (refusedBy 23)
     ∷ row 0 0 (0x1A000000 ∷ 0x18400000 ∷ 0x19500000 ∷ 0x1B000000 ∷ []) 3 (refusedBy 24)
     ∷ row 0 0 (0x1A000000 ∷ 0x18400000 ∷ 0x13540000 ∷ 0x13450000 ∷ 0x19500000 ∷ 0x1B000000 ∷ []) 5 (refusedBy 24)

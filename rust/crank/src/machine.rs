@@ -3,7 +3,7 @@
 use crate::calls::{self, Batch, Checked, Preview, Sampled};
 use crate::{image_length, Kind, Record, MAX_IMAGE, MAX_NODES, MAX_WORDS, NODE_WORDS};
 
-/// The words of scratch that the making of a table asks for, times M.
+/// The words of scratch that the making of a table asks for, for each memory word.
 const SCRATCH: usize = 16;
 
 /// The direction of a turn.
@@ -202,8 +202,8 @@ impl Machine {
 
     /// Makes the qif table of the code, walking at most `limit` cycles, and stands at its node 1. Gives
     /// the cycles from start to finish over the new table, the same for every choice of coins. There
-    /// must be no nodes yet, and pc at start; the registers, the memory and the position stay as they
-    /// are.
+    /// must be no nodes and no wait yet, and pc at start; the registers, the memory and the position stay
+    /// as they are.
     ///
     /// # Errors
     ///
