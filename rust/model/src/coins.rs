@@ -10,7 +10,7 @@ use crate::state::{Machine, Turn};
 /// How a walk went: the turns accepted, the refusal that ended it, 0 for none,
 /// the coins chosen, the qifs without their fiq, and where it stands.
 #[derive(Clone, Debug)]
-pub struct Tour {
+pub struct Followed {
     pub cycles: u32,
     pub refusal: u32,
     pub coins: Vec<u32>,
@@ -21,7 +21,7 @@ pub struct Tour {
 /// Walks from a machine that does not wait until a turn is refused or `most` are
 /// accepted; `choose` gives the coin of each qif, which it is told by its number
 /// on this walk.
-pub fn tour(start: &Machine, turn: Turn, most: u32, choose: impl Fn(usize) -> u32) -> Tour {
+pub fn follow(start: &Machine, turn: Turn, most: u32, choose: impl Fn(usize) -> u32) -> Followed {
     let mut at = start.clone();
     let (mut cycles, mut refusal, mut coins) = (0, 0, Vec::new());
     // The registers of the qifs without their fiq, with what they held before.
@@ -45,7 +45,7 @@ pub fn tour(start: &Machine, turn: Turn, most: u32, choose: impl Fn(usize) -> u3
             }
         }
     }
-    Tour {
+    Followed {
         cycles,
         refusal,
         coins,

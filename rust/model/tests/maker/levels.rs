@@ -1,7 +1,7 @@
 //! Memory at each level of qifs in each other: every branch begins with that of its
 //! qif, and the two are compared with what they have at their own fiq.
 
-use super::tours::{all_walks, Most};
+use super::followed::{all_walks, Most};
 use super::{machine, Case, FINISH, FIQ, GATE, QIF, START};
 use crank_model::instruction::word_i;
 use crank_model::maker::walk;

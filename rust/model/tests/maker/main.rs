@@ -5,18 +5,18 @@
 #[path = "../proved/mod.rs"]
 mod proved;
 
+mod any_order;
 mod apart;
+mod by_hand;
 mod entry;
+mod followed;
 mod levels;
 mod limits;
 mod multiplexor;
 mod nodes;
 mod order;
-mod papers;
 mod programs;
-mod soup;
 mod stops;
-mod tours;
 
 use std::fmt;
 

@@ -6,7 +6,7 @@
 //!   the qif among them, and in each branch 59, the fiq among them;
 //! - P(0, x) with Q[x] 106, and 5 for each of its gates.
 
-use super::tours::{all_walks, Most};
+use super::followed::{all_walks, Most};
 use super::Case;
 use crank_model::machine::NODE;
 use crank_model::multiplexor::multiplexor;
@@ -14,10 +14,10 @@ use crank_model::rng::Rng;
 
 /// The gates of each Q[x], the cycles that the limit counts, those of each walk,
 /// and the nodes.
-type Paper = (&'static [u32], u32, u32, &'static [[u32; NODE]]);
+type Worked = (&'static [u32], u32, u32, &'static [[u32; NODE]]);
 
 #[rustfmt::skip] // one node a line
-const PAPERS: [Paper; 4] = [
+const PROGRAMS: [Worked; 4] = [
     // 98 + 317 + 106 + 111, and 98 + 258 + 111.
     (&[0, 1], 632, 467, &[
         [2, 3, 2, 3, 0, 0, 4, 0, 0],
@@ -90,7 +90,7 @@ fn case(gates: &[u32], coins: &[u32; 4]) -> Case {
 
 #[test]
 fn by_hand() {
-    for (gates, walked, cycles, nodes) in PAPERS {
+    for (gates, walked, cycles, nodes) in PROGRAMS {
         for coins in COINS {
             let case = case(gates, &coins);
             for limit in [walked, walked + 1, u32::MAX] {
@@ -108,7 +108,7 @@ fn by_hand() {
 #[test]
 fn walked_over() {
     let mut rng = Rng::new(143);
-    for (gates, ..) in PAPERS {
+    for (gates, ..) in PROGRAMS {
         let case = case(gates, &COINS[2]);
         let walks = all_walks(&case, &case.same(), &Most::default(), &mut rng);
         assert_eq!(walks, gates.len());

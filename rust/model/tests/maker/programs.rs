@@ -1,7 +1,7 @@
 //! Random programs with qifs in each other, loops, idle gates and data that is
 //! altered and put back: as they are, and damaged.
 
-use super::tours::{all_walks, Most};
+use super::followed::{all_walks, Most};
 use super::Case;
 use crank_model::cover::Cover;
 use crank_model::forks::{program, Plan};

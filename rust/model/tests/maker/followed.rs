@@ -3,7 +3,7 @@
 
 use super::proved;
 use super::{bez, machine, nodes_of, Case, Left, FINISH, FIQ, GATE, QIF, START};
-use crank_model::coins::{next_choice, tour, Tour};
+use crank_model::coins::{follow, next_choice, Followed};
 use crank_model::image;
 use crank_model::machine::{self as model, CF, W};
 use crank_model::rng::Rng;
@@ -59,7 +59,7 @@ impl Walks {
         let mut start = left.machine.clone();
         start.record = left.made.record;
         let cycles = left.made.cycles;
-        let end = tour(&start, model::forward, cycles, |_| 0).end;
+        let end = follow(&start, model::forward, cycles, |_| 0).end;
         assert_eq!(end.record.position, case.machine.record.position);
         Walks { start, cycles, end }
     }
@@ -69,14 +69,14 @@ impl Walks {
     fn with(&self, coins: &[u32]) -> Vec<u32> {
         let choose = |qif: usize| coins.get(qif).copied().unwrap_or(0);
         let [model, library] = [model::forward, proved::forward]
-            .map(|turn| tour(&self.start, turn, self.cycles + 1, choose));
+            .map(|turn| follow(&self.start, turn, self.cycles + 1, choose));
         self.ends(&model, "model");
         self.ends(&library, "library");
         model.coins
     }
 
     /// At finish, with every register and every word as after any other walk.
-    fn ends(&self, walk: &Tour, name: &str) {
+    fn ends(&self, walk: &Followed, name: &str) {
         let ended = (walk.refusal, walk.cycles, walk.open);
         let coins = &walk.coins;
         let record = &self.start.record;
@@ -131,7 +131,7 @@ fn walked(table: Drawn) -> [(u32, u32); 2] {
     at_start.record.regs[4] = 9;
     [0, 1].map(|coin| {
         let [model, library] =
-            [model::forward, proved::forward].map(|turn| tour(&at_start, turn, 50, |_| coin));
+            [model::forward, proved::forward].map(|turn| follow(&at_start, turn, 50, |_| coin));
         assert_eq!((&model.end, model.cycles), (&library.end, library.cycles));
         let restored = if model.open == 0 { 9 } else { coin };
         assert_eq!(model.end.record.regs[4], restored);

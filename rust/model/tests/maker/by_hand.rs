@@ -1,6 +1,6 @@
 //! Small programs with their tables, worked out by hand.
 
-use super::tours::{all_walks, Most};
+use super::followed::{all_walks, Most};
 use super::{
     bez, bnz, bra, machine, Case, CNOT, FINISH, FIQ, FIQ2, FIQ3, GATE, GATE1, NONE, QIF, QIF2,
     QIF3, START,
@@ -11,7 +11,7 @@ use crank_model::rng::Rng;
 /// A program: what it shows, its code, the cycles that the limit counts, the
 /// cycles of each walk over its table and the nodes of that: fc0 fc1 lc0 lc1 cf cl
 /// nx pr w.
-type Paper = (
+type Worked = (
     &'static str,
     &'static [u32],
     u32,
@@ -35,7 +35,7 @@ const fn last(of: u32, pr: u32) -> [u32; NODE] {
 }
 
 #[rustfmt::skip] // one node a line
-const PAPERS: [Paper; 15] = [
+const PROGRAMS: [Worked; 15] = [
     ("start and finish", &[START, FINISH], 1, 1, &[[0; NODE]]),
     ("no qif", &[START, 0x0240_0005, GATE, FINISH], 3, 3, &[[0; NODE]]),
     ("a qif and its fiq", &[START, QIF, FIQ, FINISH], 4, 3, &[
@@ -191,9 +191,9 @@ const COINS: [[u32; 2]; 4] = [[0, 0], [1, 9], [2, 1], [u32::MAX, 0x8000_0000]];
 
 /// Every limit: one less than the cycles walked is refused, and all before it.
 #[test]
-fn by_hand() {
+fn every_limit() {
     let mut answers = 0;
-    for (name, code, walked, cycles, nodes) in PAPERS {
+    for (name, code, walked, cycles, nodes) in PROGRAMS {
         println!(
             "{name}: {walked} walked, {cycles} cycles, {} nodes",
             nodes.len()
@@ -217,7 +217,7 @@ fn by_hand() {
 fn walked_over() {
     let mut rng = Rng::new(141);
     let mut walks = 0;
-    for (_, code, ..) in PAPERS {
+    for (_, code, ..) in PROGRAMS {
         let case = case(code, [3, 4]);
         walks += all_walks(&case, &case.same(), &Most::default(), &mut rng);
     }

@@ -1,8 +1,8 @@
 //! A few words in any order around a start: most are refused, in every way there
 //! is, and those that are not are walked over.
 
+use super::followed::Most;
 use super::programs::compare;
-use super::tours::Most;
 use super::{machine, Case, FINISH, START};
 use crank_model::cover::Cover;
 use crank_model::instruction::{word_i, word_o, word_r, PC};
@@ -34,7 +34,7 @@ fn word(rng: &mut Rng, k: u32) -> u32 {
     }
 }
 
-fn soup(rng: &mut Rng) -> Case {
+fn any_order(rng: &mut Rng) -> Case {
     let k = rng.between(2, 10);
     let mut code: Vec<u32> = (0..k).map(|_| word(rng, k)).collect();
     code[k as usize - 1] = FINISH;
@@ -87,7 +87,7 @@ fn in_any_order() {
     let mut rng = Rng::new(147);
     let mut cover = Cover::default();
     for _ in 0..rounds(200_000) {
-        let case = soup(&mut rng);
+        let case = any_order(&mut rng);
         compare(&case, &Most::default(), &mut rng, &mut cover);
     }
     cover.summary("words in any order");
