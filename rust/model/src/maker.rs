@@ -9,7 +9,7 @@ use crate::nodes::Nodes;
 
 /// The words of the largest table, which the call asks for.
 pub const TABLE: usize = NODE * MAX_N as usize;
-/// The words of scratch that it asks for, times M.
+/// The words of scratch that it asks for, for each memory word.
 pub const SCRATCH: usize = 16;
 /// The most qifs that stand in each other.
 pub const NESTING: u32 = 8;

@@ -1,5 +1,5 @@
-//! A few words in any order around a start: most are refused, in every way there
-//! is, and those that are not are walked over.
+//! A few words in any order around a start: most are refused, in nearly every way
+//! there is, and those that are not are walked over.
 
 use super::followed::Most;
 use super::programs::compare;

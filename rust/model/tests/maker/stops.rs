@@ -1,5 +1,5 @@
-//! Every refusal in the walk at the first and at the last word that it can be at,
-//! in code worked out by hand.
+//! Every refusal of a turn, and 24, at the first and at the last word that it can be
+//! at, in code worked out by hand; 23 is in nodes.rs and limits.rs.
 
 use super::{bez, bnz, bra, machine, Case, FINISH, FIQ, FIQ2, GATE, NONE, QIF, QIF2, START};
 use crank_model::maker::walk;
@@ -14,7 +14,7 @@ const LDR: u32 = 0x1056_0000;
 const FETR: u32 = 0x1159_0000;
 
 #[rustfmt::skip] // one program a line
-const TURNS: [Row; 41] = [
+const TURNS: [Row; 43] = [
     (&[START], "11 turn at a word", 1),
     (&[START, QIF], "11 turn at a word", 2),
     (&[START, QIF, bnz(9), FIQ, FINISH], "11 turn at a word", 5),
@@ -52,7 +52,9 @@ const TURNS: [Row; 41] = [
     (&[START, START, FINISH], "18 turn at a word", 0),
     (&[START, GATE, START], "18 turn at a word", 1),
     (&[START, bra(!0)], "18 turn at a word", 1),
+    (&[START, QIF, FIQ, GATE, START], "18 turn at a word", 4),
     (&[START, QIF, START], "18 turn at a qif", 1),
+    (&[START, QIF, FIQ, QIF2, START], "18 turn at a qif", 4),
     (&[START, QIF, FIQ, START], "18 turn at fiq 0", 2),
     (&[START, QIF, QIF2, FIQ2, START], "18 turn at fiq 0", 3),
     // Branch 1 would come to no instruction.
