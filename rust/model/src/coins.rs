@@ -7,13 +7,24 @@ use crate::instruction::Instruction::{self, Fiq, Qif};
 use crate::instruction::{decode, PC};
 use crate::state::{Machine, Turn};
 
+/// A word that a walk executes, waits apart: its address, its node, and whether it
+/// is a qif.
+#[derive(Clone, Copy, Debug, PartialEq, Eq)]
+pub struct Executed {
+    pub pc: u32,
+    pub node: u32,
+    pub qif: bool,
+}
+
 /// How a walk went: the turns accepted, the refusal that ended it, 0 for none,
-/// the coins chosen, the qifs without their fiq, and where it stands.
+/// the coins chosen, the words executed, the qifs without their fiq, and where it
+/// stands.
 #[derive(Clone, Debug)]
 pub struct Followed {
     pub cycles: u32,
     pub refusal: u32,
     pub coins: Vec<u32>,
+    pub words: Vec<Executed>,
     pub open: usize,
     pub end: Machine,
 }
@@ -24,11 +35,14 @@ pub struct Followed {
 pub fn follow(start: &Machine, turn: Turn, most: u32, choose: impl Fn(usize) -> u32) -> Followed {
     let mut at = start.clone();
     let (mut cycles, mut refusal, mut coins) = (0, 0, Vec::new());
+    let mut words = Vec::new();
     // The registers of the qifs without their fiq, with what they held before.
     let mut held = Vec::new();
     while cycles < most {
         let ins = instruction_at(&at);
-        if let (Some(Qif { a }), 0) = (ins, at.record.qifw) {
+        let (pc, node) = (at.record.regs[PC], at.record.qifv);
+        let waits = at.record.qifw > 0;
+        if let (Some(Qif { a }), false) = (ins, waits) {
             let coin = choose(coins.len());
             let reg = &mut at.record.regs[usize::from(a)];
             held.push((usize::from(a), std::mem::replace(reg, coin)));
@@ -39,6 +53,10 @@ pub fn follow(start: &Machine, turn: Turn, most: u32, choose: impl Fn(usize) -> 
             break;
         }
         cycles += 1;
+        if !waits {
+            let qif = matches!(ins, Some(Qif { .. }));
+            words.push(Executed { pc, node, qif });
+        }
         if matches!(ins, Some(Fiq { .. })) {
             if let Some((reg, before)) = held.pop() {
                 at.record.regs[reg] = before;
@@ -49,6 +67,7 @@ pub fn follow(start: &Machine, turn: Turn, most: u32, choose: impl Fn(usize) -> 
         cycles,
         refusal,
         coins,
+        words,
         open: held.len(),
         end: at,
     }

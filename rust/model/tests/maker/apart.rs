@@ -15,10 +15,18 @@ fn with_coin_1(coin: usize, words: &[u32], data: usize) -> Case {
     Case::new(machine(&code, &vec![0; data]), u32::MAX)
 }
 
+/// Refused by 24, or made and walked over with either coin.
+fn answers(case: &Case, refusal: u32) {
+    match refusal {
+        0 => case.walked().all_of(2),
+        _ => case.refused(refusal),
+    }
+}
+
 /// xor of a register with one bit into any other, once and twice.
 #[test]
 fn registers() {
-    let mut answers = 0;
+    let mut calls = 0;
     for coin in 2..16 {
         for other in (2..16).filter(|reg| *reg != coin) {
             let third = (2..16).find(|reg| ![coin, other].contains(reg));
@@ -29,14 +37,14 @@ fn registers() {
                     let mut case = with_coin_1(coin, &words, 0);
                     case.machine.record.regs[coin] = 5;
                     case.machine.record.regs[bits] = 1 << bit;
-                    assert_eq!(case.same().made.refusal, refusal, "{case:?}");
-                    answers += 1;
+                    answers(&case, refusal);
+                    calls += 1;
                 }
             }
         }
     }
-    println!("registers apart: {answers} answers");
-    assert_eq!(answers, 14 * 13 * 2 * 4);
+    println!("registers apart: {calls} answers");
+    assert_eq!(calls, 14 * 13 * 2 * 4);
 }
 
 /// xor r2,r4 and ldr r2,r3 put the bit in r4 into a data word and leave r2 at 0;
@@ -44,7 +52,7 @@ fn registers() {
 #[test]
 fn memory() {
     let (xor, ldr) = (word_r(19, 5, 7), word_r(16, 5, 6));
-    let mut answers = 0;
+    let mut calls = 0;
     for data in [1, 2, 5] {
         for at in 0..data {
             for (words, refusal) in [(vec![xor, ldr], 24), (vec![xor, ldr, ldr, xor], 0)] {
@@ -52,12 +60,12 @@ fn memory() {
                     let mut case = with_coin_1(4, &words, data);
                     case.machine.record.regs[6] = case.machine.record.k + at as u32;
                     case.machine.record.regs[7] = 1 << bit;
-                    assert_eq!(case.same().made.refusal, refusal, "{case:?}");
-                    answers += 1;
+                    answers(&case, refusal);
+                    calls += 1;
                 }
             }
         }
     }
-    println!("memory apart: {answers} answers");
-    assert_eq!(answers, 8 * 2 * 4);
+    println!("memory apart: {calls} answers");
+    assert_eq!(calls, 8 * 2 * 4);
 }

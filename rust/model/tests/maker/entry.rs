@@ -51,7 +51,7 @@ const REFUSED_22: [(&str, Change); 16] = [
 
 #[test]
 fn as_said_but_for_one() {
-    good().gives(3, &nodes());
+    good().gives(3, &nodes()).all_of(2);
     for (name, change) in REFUSED_22 {
         println!("22: {name}");
         for limit in [0, 4, u32::MAX] {
@@ -81,7 +81,7 @@ fn anything_else() {
             case.machine.record.position = position;
             case.machine.record.qifv = word;
             case.machine.record.regs[2..].fill(word);
-            case.gives(3, &nodes());
+            case.gives(3, &nodes()).all_of(2);
             answers += 1;
         }
     }
@@ -133,7 +133,7 @@ fn largest_memory() {
         case.machine.mem[..4].copy_from_slice(&[START, QIF, FIQ, FINISH]);
         (case.machine.record.k, case.machine.record.m) = (k, 8_192);
         case.scratch = vec![OTHER; 131_072];
-        case.gives(3, &nodes());
+        case.gives(3, &nodes()).all_of(2);
         case.scratch.truncate(131_071);
         case.refused(22);
     }

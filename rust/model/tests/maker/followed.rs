@@ -1,6 +1,8 @@
 //! Walks over a made table, by the model's turns and by the library's: whatever the
 //! coins, they end at finish after the cycles that the answer gives.
 
+use std::collections::BTreeMap;
+
 use super::proved;
 use super::{bez, machine, nodes_of, Case, Left, FINISH, FIQ, GATE, QIF, START};
 use crank_model::coins::{follow, next_choice, Followed};
@@ -27,24 +29,73 @@ impl Default for Most {
     }
 }
 
-/// Walks over the table that the call left; gives how many walks.
-pub fn all_walks(case: &Case, left: &Left, most: &Most, rng: &mut Rng) -> usize {
+impl Most {
+    /// For tests that make many tables: all choices of eight qifs in each other.
+    pub const FEW: Most = Most {
+        choices: 16,
+        turns: 20_000,
+        random: 4,
+    };
+}
+
+/// The walks made over one table, and what they came by.
+#[derive(Debug, Default)]
+pub struct Walked {
+    pub walks: usize,
+    /// Whether these were all choices of coins.
+    pub all: bool,
+    /// Whether a walk executed some word twice, as in a loop of two rounds.
+    pub looped: bool,
+    /// Whether some qif was executed at two nodes.
+    pub again: bool,
+    /// Whether a walk waited.
+    pub waited: bool,
+    /// Each qif with a node that it was executed at.
+    qifs: BTreeMap<u32, u32>,
+}
+
+impl Walked {
+    fn add(&mut self, walk: &Followed) {
+        self.walks += 1;
+        self.waited |= walk.words.len() < walk.cycles as usize;
+        for word in walk.words.iter().filter(|word| word.qif) {
+            let node = *self.qifs.entry(word.pc).or_insert(word.node);
+            self.again |= node != word.node;
+        }
+        if !self.looped {
+            let mut addresses: Vec<u32> = walk.words.iter().map(|word| word.pc).collect();
+            addresses.sort_unstable();
+            self.looped = addresses.windows(2).any(|two| two[0] == two[1]);
+        }
+    }
+
+    /// Fails unless these were all choices, and so many.
+    pub fn all_of(&self, walks: usize) {
+        assert!(self.all, "only {} walks", self.walks);
+        assert_eq!(self.walks, walks);
+    }
+}
+
+/// Checks the table that the call left and walks over it.
+pub fn all_walks(case: &Case, left: &Left, most: &Most, rng: &mut Rng) -> Walked {
     sound(left);
     let walk = Walks::new(case, left);
-    let (mut walks, mut choice) = (0, Some(Vec::new()));
+    let (mut walked, mut choice) = (Walked::default(), Some(Vec::new()));
     while let Some(coins) = choice {
-        let turns = walks as u64 * u64::from(left.made.cycles);
-        if walks >= most.choices || turns > most.turns {
+        let turns = walked.walks as u64 * u64::from(left.made.cycles);
+        if walked.walks >= most.choices || turns > most.turns {
             for _ in 0..most.random {
                 let coins: Vec<u32> = (0..200).map(|_| rng.below(2)).collect();
-                walk.with(&coins);
+                walked.add(&walk.with(&coins));
             }
-            return walks + most.random;
+            return walked;
         }
-        choice = next_choice(&walk.with(&coins));
-        walks += 1;
+        let followed = walk.with(&coins);
+        walked.add(&followed);
+        choice = next_choice(&followed.coins);
     }
-    walks
+    walked.all = true;
+    walked
 }
 
 /// Where walks begin, the cycles that they take, and where they end.
@@ -64,15 +115,16 @@ impl Walks {
         Walks { start, cycles, end }
     }
 
-    /// Walks with these coins, and 0 behind their list, by both; gives those that
-    /// were asked for.
-    fn with(&self, coins: &[u32]) -> Vec<u32> {
+    /// Walks with these coins, and 0 behind their list, by both; gives the model's
+    /// walk.
+    fn with(&self, coins: &[u32]) -> Followed {
         let choose = |qif: usize| coins.get(qif).copied().unwrap_or(0);
         let [model, library] = [model::forward, proved::forward]
             .map(|turn| follow(&self.start, turn, self.cycles + 1, choose));
         self.ends(&model, "model");
         self.ends(&library, "library");
-        model.coins
+        assert!(model.words == library.words, "coins {coins:?}");
+        model
     }
 
     /// At finish, with every register and every word as after any other walk.

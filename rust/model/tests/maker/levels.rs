@@ -44,7 +44,7 @@ impl Nest {
 }
 
 /// A level has its qif, five words in the branch that goes over the next one and
-/// five more in the other.
+/// five more in the other. A walk goes over the next one at some level, or at none.
 #[test]
 fn every_level() {
     let mut rng = Rng::new(149);
@@ -62,7 +62,9 @@ fn every_level() {
             let made = (left.made.refusal, left.made.cycles, left.made.record.n);
             assert_eq!(made, (0, 2 + 6 * levels, 1 + 3 * levels));
             case.limited(1 + 11 * levels).refused(23);
-            walks += all_walks(&case, &left, &Most::default(), &mut rng);
+            let walked = all_walks(&case, &left, &Most::default(), &mut rng);
+            walked.all_of(levels as usize + 1);
+            walks += walked.walks;
         }
     }
     println!("levels: 18 programs, {walks} walks");

@@ -1,6 +1,7 @@
 //! Every limit, with programs of every nesting: those below the cycles walked are
-//! refused by 23, all others give the same table.
+//! refused by 23, all others give the same table, which is walked over.
 
+use super::followed::{all_walks, Most};
 use super::Case;
 use crank_model::forks::{program, Plan};
 use crank_model::maker::walk;
@@ -24,6 +25,7 @@ fn all_of_them() {
         programs += 1;
         let case = Case::new(machine, u32::MAX);
         let left = case.same();
+        all_walks(&case, &left, &Most::FEW, &mut rng);
         for limit in 0..walk.walked + 2 {
             limits += 1;
             let limited = case.limited(limit);

@@ -22,7 +22,9 @@ use std::fmt;
 
 use crank_model::machine::{Record, NODE};
 use crank_model::maker::{Made, MakeCall, SCRATCH, TABLE};
+use crank_model::rng::Rng;
 use crank_model::state::Machine;
+use followed::{all_walks, Most, Walked};
 use proved::MAKERS;
 
 /// Words of the code in the tests by hand. Coins are r1, r2 and r3.
@@ -180,20 +182,28 @@ impl Case {
 
     /// Every maker refuses by this number.
     fn refused(&self, refusal: u32) {
+        assert_ne!(refusal, 0, "{self:?}");
         for (name, call) in MAKERS {
             let left = self.make(name, call);
             assert_eq!(left.made.refusal, refusal, "{name}: {self:?}");
         }
     }
 
-    /// Every maker gives these cycles and these nodes, and no others.
-    fn gives(&self, cycles: u32, nodes: &[[u32; NODE]]) {
+    /// Every maker gives these cycles and these nodes, and no others; the walks over
+    /// them.
+    fn gives(&self, cycles: u32, nodes: &[[u32; NODE]]) -> Walked {
         for (name, call) in MAKERS {
             let left = self.make(name, call);
             let found = (left.made.refusal, left.made.cycles);
             assert_eq!(found, (0, cycles), "{name}: {self:?}");
             assert_eq!(nodes_of(&left), nodes, "{name}: {self:?}");
         }
+        self.walked()
+    }
+
+    /// The walks over the table that every maker gives, a few if there are many.
+    fn walked(&self) -> Walked {
+        all_walks(self, &self.same(), &Most::FEW, &mut Rng::new(150))
     }
 }
 

@@ -6,11 +6,9 @@
 //!   the qif among them, and in each branch 59, the fiq among them;
 //! - P(0, x) with Q[x] 106, and 5 for each of its gates.
 
-use super::followed::{all_walks, Most};
 use super::Case;
 use crank_model::machine::NODE;
 use crank_model::multiplexor::multiplexor;
-use crank_model::rng::Rng;
 
 /// The gates of each Q[x], the cycles that the limit counts, those of each walk,
 /// and the nodes.
@@ -88,29 +86,19 @@ fn case(gates: &[u32], coins: &[u32; 4]) -> Case {
     Case::new(multiplexor(gates, &coins[..=n]), u32::MAX)
 }
 
+/// As many walks as there are Q[x], all of these cycles.
 #[test]
 fn by_hand() {
     for (gates, walked, cycles, nodes) in PROGRAMS {
         for coins in COINS {
             let case = case(gates, &coins);
             for limit in [walked, walked + 1, u32::MAX] {
-                case.limited(limit).gives(cycles, nodes);
+                case.limited(limit).gives(cycles, nodes).all_of(gates.len());
             }
             for limit in [0, 1, 98, cycles, walked - 1] {
                 case.limited(limit).refused(23);
             }
         }
         println!("multiplexor {gates:?}: {walked} walked, {cycles} cycles");
-    }
-}
-
-/// As many walks as there are Q[x], all of these cycles.
-#[test]
-fn walked_over() {
-    let mut rng = Rng::new(143);
-    for (gates, ..) in PROGRAMS {
-        let case = case(gates, &COINS[2]);
-        let walks = all_walks(&case, &case.same(), &Most::default(), &mut rng);
-        assert_eq!(walks, gates.len());
     }
 }

@@ -35,7 +35,8 @@ fn one_after_the_other() {
     nodes.push([0, 0, 0, 0, 0, 0, 0, 508, 0]);
     assert_eq!(nodes.len(), 511);
     let most = case(&[&[START], &row(170), &[FINISH]]);
-    most.limited(511).gives(341, &nodes);
+    let walked = most.limited(511).gives(341, &nodes);
+    assert_eq!((walked.all, walked.walks), (false, 20));
     most.limited(510).refused(23);
     // With one more nothing behind its qif is walked.
     too_many(&case(&[&[START], &row(171), &[FINISH]]), "a qif", 511);
@@ -110,6 +111,8 @@ fn the_last_one() {
     };
     let left = with(&zero, &one).same();
     assert_eq!(left.made.refusal, 0);
+    let walked = with(&zero, &one).walked();
+    assert_eq!((walked.all, walked.walks, walked.waited), (false, 20, true));
     // start and qif; then 2 + 2 * 85 + 2 in the longer branch.
     assert_eq!((left.made.record.n, left.made.cycles), (511, 2 + 174));
     assert_eq!(left.machine.table[NODE + 8], 2, "w of node 2");
@@ -159,7 +162,8 @@ fn nesting() {
     for levels in 0..=8 {
         let nested = case(&[&[START], &nest(levels), &[FINISH]]);
         let (walked, cycles) = (2 + 7 * levels, 2 + 4 * levels);
-        nested.limited(walked).gives(cycles, &nodes_of_nest(levels));
+        let walks = nested.limited(walked).gives(cycles, &nodes_of_nest(levels));
+        walks.all_of(levels as usize + 1);
         nested.limited(walked - 1).refused(23);
     }
     for levels in 9..12 {

@@ -1,6 +1,7 @@
 //! Several reasons to refuse at one word: a turn's own, then 23, and 24 last.
 
 use super::{bnz, machine, Case, FINISH, FIQ, FIQ2, GATE, NONE, QIF, QIF2, START};
+use crank_model::machine::NODE;
 
 /// The code, and for each limit from 0 on what it gives; the last is for all others.
 type Row = (&'static [u32], &'static [u32]);
@@ -43,7 +44,11 @@ fn at_one_word() {
         let last = refusals[refusals.len() - 1];
         for limit in (0..20).chain([u32::MAX]) {
             let refusal = refusals.get(limit as usize).unwrap_or(&last);
-            case.limited(limit).refused(*refusal);
+            let limited = case.limited(limit);
+            match refusal {
+                0 => limited.gives(1, &[[0; NODE]]).all_of(1),
+                _ => limited.refused(*refusal),
+            }
             answers += 1;
         }
     }

@@ -1,7 +1,7 @@
 //! Random programs with qifs in each other, loops, idle gates and data that is
 //! altered and put back: as they are, and damaged.
 
-use super::followed::{all_walks, Most};
+use super::followed::{all_walks, Most, Walked};
 use super::Case;
 use crank_model::cover::Cover;
 use crank_model::forks::{program, Plan};
@@ -25,13 +25,29 @@ pub fn compare(case: &Case, most: &Most, rng: &mut Rng, cover: &mut Cover) -> u3
     match end {
         Err(stop) => cover.count(&stop.name()),
         Ok(_) => {
+            cover.count("accepted");
             cover.count(&format!("nesting {}", walk.deepest));
-            for _ in 0..all_walks(case, &left, most, rng) {
-                cover.count("walks");
-            }
+            count_walks(&all_walks(case, &left, most, rng), cover);
         }
     }
     refusal
+}
+
+fn count_walks(walked: &Walked, cover: &mut Cover) {
+    for _ in 0..walked.walks {
+        cover.count("walks");
+    }
+    for (name, holds) in [
+        ("all choices", walked.all),
+        ("some choices", !walked.all),
+        ("a loop", walked.looped),
+        ("a qif again", walked.again),
+        ("a wait", walked.waited),
+    ] {
+        if holds {
+            cover.count(name);
+        }
+    }
 }
 
 /// What an accepted program can be.

@@ -5,7 +5,7 @@ use super::{bez, bnz, bra, machine, Case, FINISH, FIQ, FIQ2, GATE, NONE, QIF, QI
 use crank_model::maker::walk;
 
 /// The code; the refusal, what it is for and where; and the cycles counted before
-/// it, a qif's or fiq's own among them if the refusal is 23 or 24.
+/// it, a qif's or fiq's own among them if the refusal is 24.
 type Row = (&'static [u32], &'static str, u32);
 
 /// ld r2 from the first code word; ldr r2,r3 with 0 in r3; fetr r2,r6 with -1 in r6.
