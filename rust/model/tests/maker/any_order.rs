@@ -2,7 +2,7 @@
 //! there is, and those that are not are walked over.
 
 use super::followed::Most;
-use super::programs::compare;
+use super::programs::{compare, demand_at_least};
 use super::{machine, Case, FINISH, START};
 use crank_model::cover::Cover;
 use crank_model::instruction::{word_i, word_o, word_r, PC};
@@ -92,4 +92,13 @@ fn in_any_order() {
     }
     cover.summary("words in any order");
     cover.demand(&REACHED);
+    demand_at_least(
+        &cover,
+        &[
+            ("accepted", 30_000),
+            ("all choices", 30_000),
+            ("a loop", 5),
+            ("a qif again", 200),
+        ],
+    );
 }

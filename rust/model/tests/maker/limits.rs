@@ -39,5 +39,5 @@ fn all_of_them() {
         }
     }
     println!("limits: {limits} of {programs} programs");
-    assert!(programs >= 20, "only {programs} programs");
+    assert!(programs >= rounds(30), "only {programs} programs");
 }

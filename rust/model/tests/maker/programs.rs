@@ -50,6 +50,14 @@ fn count_walks(walked: &Walked, cover: &mut Cover) {
     }
 }
 
+/// Fails if something was counted less often, for each factor of the rounds.
+pub fn demand_at_least(cover: &Cover, least: &[(&str, u32)]) {
+    for (name, times) in least {
+        let (found, times) = (cover.times(name), rounds(*times));
+        assert!(found >= u64::from(times), "{name}: {found} of {times}");
+    }
+}
+
 /// What an accepted program can be.
 const NESTINGS: [&str; 9] = [
     "nesting 0",
@@ -99,6 +107,17 @@ fn whole() {
         "23 nodes at a qif",
         "23 nodes at fiq 1",
     ]);
+    demand_at_least(
+        &cover,
+        &[
+            ("accepted", 1_500),
+            ("all choices", 1_200),
+            ("some choices", 100),
+            ("a loop", 500),
+            ("a qif again", 500),
+            ("a wait", 1_000),
+        ],
+    );
 }
 
 /// The same in the largest memory, with no word of scratch to spare and the last data
@@ -130,6 +149,17 @@ fn largest_memory() {
     }
     cover.summary("largest memory");
     cover.demand(&NESTINGS);
+    demand_at_least(
+        &cover,
+        &[
+            ("accepted", 80),
+            ("all choices", 10),
+            ("some choices", 50),
+            ("a loop", 20),
+            ("a qif again", 20),
+            ("a wait", 50),
+        ],
+    );
 }
 
 /// Puts another word at some code address.
@@ -242,6 +272,17 @@ fn damaged() {
     }
     cover.summary("damaged programs");
     cover.demand(&STOPS);
+    demand_at_least(
+        &cover,
+        &[
+            ("accepted", 7_000),
+            ("all choices", 4_000),
+            ("some choices", 2_000),
+            ("a loop", 2_000),
+            ("a qif again", 2_000),
+            ("a wait", 4_000),
+        ],
+    );
 }
 
 /// The programs of the other tests: most of their branches do not come together.
@@ -267,4 +308,15 @@ fn of_the_other_tests() {
         "nesting 3",
         "24 registers at fiq 1",
     ]);
+    demand_at_least(
+        &cover,
+        &[
+            ("accepted", 400),
+            ("all choices", 200),
+            ("some choices", 200),
+            ("a loop", 200),
+            ("a qif again", 300),
+            ("a wait", 10),
+        ],
+    );
 }
