@@ -26,9 +26,12 @@ pub record Ready (r : Record) (mem table scratch : List ℕ) : Type 0 where
   pub sizes : wrongSizes r mem table ≡ false
   pub code : (0 < r .k) × (r .k ≤ r .m) × (r .m ≤ 8192)
   pub words : r .m ≤ length mem
+  pub front : r .m ≡ length (take (r .m) mem)
   pub wait : r .qifw ≡ 0
   pub nodes : 4599 ≤ length table
+  pub table-front : 4599 ≡ length (take 4599 table)
   pub room : 16 * r .m ≤ length scratch
+  pub room-front : 16 * r .m ≡ length (take (16 * r .m) scratch)
 
 shorter : (m : ℕ) (l : List ℕ) → length (take m l) ≤ length l
 shorter m l = omega (arith, length-take m l)
@@ -51,18 +54,24 @@ ready r mem table scratch e =
     let g = and-true (starts (statusOf r) (take (r .m) mem) (getD (r .regs) 0 0)) r₂ (not-second _ 21 0 (w .1) .0) in
     let h = and-true (eqb (r .qifw) 0) r₄ (and-true (eqb (r .n) 0) r₃ (g .1) .1) in
     let i = and-true (leb mostWords (length table)) (leb (scratchWords r) (length scratch)) (h .1) in
+    let long : r .m ≤ length mem = omega (arith, leb-true (r .m) (length (take (r .m) mem)) (f .0), shorter (r .m) mem) in
+    let most : 4599 ≤ length table = leb-true 4599 (length table) (i .0) in
+    let room : 16 * r .m ≤ length scratch = leb-true (16 * r .m) (length scratch) (i .1) in
     record {
       sizes = w .0;
       code = (ltb-true 0 (r .k) (b .0), leb-true (r .k) (r .m) (c .0), leb-true (r .m) 8192 (d .0));
-      words = omega (arith, leb-true (r .m) (length (take (r .m) mem)) (f .0), shorter (r .m) mem);
+      words = long;
+      front = sym (length-take-le (r .m) mem long);
       wait = eqb-true (r .qifw) 0 (h .0);
-      nodes = leb-true 4599 (length table) (i .0);
-      room = leb-true (16 * r .m) (length scratch) (i .1);
+      nodes = most;
+      table-front = sym (length-take-le 4599 table most);
+      room = room;
+      room-front = sym (length-take-le (16 * r .m) scratch room);
     }
 
 module _ (r : Record) (limit : ℕ) (mem table scratch : List ℕ) where
   pub sized-front : Ready r mem table scratch → Sized (r .k) (r .m) (length (take (r .m) mem))
-  sized-front h = (h .code .0, h .code .1, h .code .2, length-take-le (r .m) mem (h .words))
+  sized-front h = (h .code .0, h .code .1, h .code .2, sym (h .front))
 
   -- ---- 10 and 22
 

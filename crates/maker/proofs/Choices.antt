@@ -68,7 +68,7 @@ pub record Lawful {S : Type 0} (M : Walkable S) : Type 0 where
 module _ {S : Type 0} (M : Walkable S) where
   -- branch x of the qif at s walks by W to its fiq, after which the state is z
   abbrev pub Joins : S → ℕ → (S → Type 0) → S → Type 0
-  Joins s x W z = (y : S) × W y × (M .look y ≡ joins) × (M .lands y ≡ false) × (M .holds s x y ≡ true) × (M .after s y ≡ z)
+  Joins s x W z = (y : S) × W y × (M .look y ≡ joins) × (M .isBeforeStart y ≡ false) × (M .holds s x y ≡ true) × (M .after s y ≡ z)
 
   abbrev pub Walks : S → Walk → S → Type 0
   Walks s begin z = s ≡ z
@@ -128,7 +128,7 @@ module _ {S : Type 0} (M : Walkable S) (L : Lawful M) (t : List ℕ) (N : ℕ) (
     unfolding cycle enter
     enters x u b e p = rw (e, le-leb x 1 b, there t N v (fc x) u cf p, p)
 
-    leaves : (q x p m : ℕ) (s₀ : S) → x ≤ 1 → M .look s ≡ joins → M .lands s ≡ false → M .holds s₀ x s ≡ true → paired t N p (lc x) v cl ≡ true → paired t N p nx m pr ≡ true
+    leaves : (q x p m : ℕ) (s₀ : S) → x ≤ 1 → M .look s ≡ joins → M .isBeforeStart s ≡ false → M .holds s₀ x s ≡ true → paired t N p (lc x) v cl ≡ true → paired t N p nx m pr ≡ true
         → cycle M t N q (guided s v 0 (s₀ ∷ l)) ≡ moved (guided (M .after s₀ s) m 0 l)
     unfolding cycle leave
     leaves r x p m s₀ h e f k a b = rw (e, L .held s₀ s x k, le-leb x 1 h, back t N p (lc x) v cl a, there t N p nx m pr b, a, b, f, k)
@@ -152,7 +152,7 @@ module _ {S : Type 0} (M : Walkable S) (L : Lawful M) (t : List ℕ) (N : ℕ) (
   -- a whole qif, by coin x: enter u, wait, walk its branch to y at e in k cycles, and leave for m
   taken : (s : S) (v : ℕ) (l : List S) (i x u e m k : ℕ) (y z : S) → x ≤ 1 → c i ≡ x → M .look s ≡ forks → paired t N v (fc x) u cf ≡ true
       → ((j : ℕ) (l : List S) → go k j (guided (M .on (M .coined s x)) u 0 l) ≡ moved (guided y e 0 l))
-      → M .look y ≡ joins → M .lands y ≡ false → M .holds s x y ≡ true → paired t N v (lc x) e cl ≡ true → paired t N v nx m pr ≡ true → M .after s y ≡ z
+      → M .look y ≡ joins → M .isBeforeStart y ≡ false → M .holds s x y ≡ true → paired t N v (lc x) e cl ≡ true → paired t N v nx m pr ≡ true → M .after s y ≡ z
       → go (1 + (link t N u w + (k + 1))) i (guided s v 0 l) ≡ moved (guided z m 0 l)
   taken s v l i x u e m k y z b ci f first walk j o h end next after =
       then 1 _ i _ _ (one i _ _ (ap (λ (q : ℕ). cycle M t N q (guided s v 0 l)) ci ∙ enters s v l x u b f first))

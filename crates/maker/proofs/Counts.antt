@@ -9,7 +9,7 @@ use Rattle.word.specs.Word.{pick}
 use Rattle.maker.specs.Walk.{Walk, size, used, cycles}
 use Rattle.maker.specs.Walk.Walk.{begin, step, fork}
 use Rattle.maker.specs.Walkable.{Walkable}
-use Rattle.maker.specs.Making.{Outcome, Forks, unless, byOutcome, opening, closing, meeting, forkBy, forkAt, branchAt}
+use Rattle.maker.specs.Making.{Outcome, Forks, unless, byOutcome, qifRefusal, firstFiqRefusal, secondFiqRefusal, forkBy, forkAt, branchAt}
 use Rattle.maker.specs.Making.Outcome.{refused, ended}
 use Rattle.maker.specs.Making.Forks.{failed, forked}
 
@@ -56,8 +56,8 @@ module _ {S : Type 0} (M : Walkable S) (limit : ℕ) where
     pub s₁ : S
     pub first : branch (n + 2) (u + 1) (M .on (M .coined s 0)) ≡ ended a s₀
     pub second : branch (n + 2 + size a) (u + 1 + used a + 1) (M .on (M .coined s 1)) ≡ ended b s₁
-    pub free₀ : M .lands s₀ ≡ false
-    pub free₁ : M .lands s₁ ≡ false
+    pub free₀ : M .isBeforeStart s₀ ≡ false
+    pub free₁ : M .isBeforeStart s₁ ≡ false
     pub holds₀ : M .holds s 0 s₀ ≡ true
     pub holds₁ : M .holds s 1 s₁ ≡ true
     pub same : M .same (M .after s s₀) (M .after s s₁) ≡ true
@@ -67,19 +67,19 @@ module _ {S : Type 0} (M : Walkable S) (limit : ℕ) where
     pub room : n + 2 + size a + size b ≤ 510
 
   accepted : (branch : ℕ → ℕ → S → Outcome S) (n u : ℕ) (s : S) (a b : Walk) (s₀ s₁ : S)
-      → opening M limit n u ≡ 0
+      → qifRefusal M limit n u ≡ 0
       → branch (n + 2) (u + 1) (M .on (M .coined s 0)) ≡ ended a s₀
-      → closing M limit s (u + 1 + used a) s₀ ≡ 0
+      → firstFiqRefusal M limit s (u + 1 + used a) s₀ ≡ 0
       → branch (n + 2 + size a) (u + 1 + used a + 1) (M .on (M .coined s 1)) ≡ ended b s₁
-      → meeting M limit s (n + 2 + size a + size b) (u + 1 + used a + 1 + used b) s₀ s₁ ≡ 0
+      → secondFiqRefusal M limit s (n + 2 + size a + size b) (u + 1 + used a + 1 + used b) s₀ s₁ ≡ 0
       → Accepted branch n u s a b (M .after s s₀)
   accepted branch n u s a b s₀ s₁ k e₀ k₀ e₁ k₁ =
       let open-limit = not-first (leb limit u) 22 (pick (ltb 509 n) 23 0) k in
-      let close-free = not-first (M .lands s₀) 17 (pick (leb limit (u + 1 + used a)) 23 (pick (M .holds s 0 s₀) 0 24)) k₀ in
+      let close-free = not-first (M .isBeforeStart s₀) 17 (pick (leb limit (u + 1 + used a)) 23 (pick (M .holds s 0 s₀) 0 24)) k₀ in
       let close-limit = not-first (leb limit (u + 1 + used a)) 22 (pick (M .holds s 0 s₀) 0 24) (close-free .1) in
       let meet-same : ℕ = pick (M .same (M .after s s₀) (M .after s s₁)) 0 24 in
       let meet-coin : ℕ = pick (M .holds s 1 s₁) meet-same 24 in
-      let meet-free = not-first (M .lands s₁) 17 (pick (leb limit (u + 1 + used a + 1 + used b)) 23 (pick (ltb 510 (n + 2 + size a + size b)) 23 meet-coin)) k₁ in
+      let meet-free = not-first (M .isBeforeStart s₁) 17 (pick (leb limit (u + 1 + used a + 1 + used b)) 23 (pick (ltb 510 (n + 2 + size a + size b)) 23 meet-coin)) k₁ in
       let meet-limit = not-first (leb limit (u + 1 + used a + 1 + used b)) 22 (pick (ltb 510 (n + 2 + size a + size b)) 23 meet-coin) (meet-free .1) in
       let meet-room = not-first (ltb 510 (n + 2 + size a + size b)) 22 meet-coin (meet-limit .1) in
       let meet-holds = not-second (M .holds s 1 s₁) 23 meet-same (meet-room .1) in

@@ -23,7 +23,7 @@ use Rattle.maker.specs.Making.Outcome.{ended}
 use Rattle.maker.proofs.Guided.{Guided, Next, guided, settled, enter, waits, leave, runs, byNext}
 use Rattle.maker.proofs.Guided.{cycle as guidedCycle}
 use Rattle.maker.proofs.Guided.Next.{stuck, moved}
-use Rattle.maker.specs.Idle.{placed, on, lands, lookAt, coinAt, machine}
+use Rattle.maker.specs.Idle.{placed, on, isBeforeStart, lookAt, coinAt, machine}
 use Rattle.maker.specs.Follow.{Saved, saved, Walker, Went, walker, cycle, follows, byWent}
 use Rattle.maker.specs.Follow.Went.{went}
 use Rattle.maker.proofs.Choices.{Holds}
@@ -98,7 +98,7 @@ module _ (t : List ℕ) (N : ℕ) where
   leaves-to x s v (s₀ ∷ l) z e =
       all-pick _ (leb (reg s (coinAt s)) 1) _ 16 λ b.
       all-pick _ (paired t N (link t N v cl) (lc (reg s (coinAt s))) v cl && paired t N (link t N v cl) nx (link t N (link t N v cl) nx) pr) _ 17 λ p.
-      all-other _ (lands s) _ 18 λ f. all-pick _ (eqb (coinAt s₀) (coinAt s) && eqb (reg s (coinAt s)) (reg s (coinAt s))) (moved _) 24 λ h.
+      all-other _ (isBeforeStart s) _ 18 λ f. all-pick _ (eqb (coinAt s₀) (coinAt s) && eqb (reg s (coinAt s)) (reg s (coinAt s))) (moved _) 24 λ h.
       (fiq-ends t N s s₀ v x (coins l) z (leb-true (reg s (coinAt s)) 1 b) e f p, z)
 
   -- by the look and the wait count

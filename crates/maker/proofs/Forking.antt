@@ -13,11 +13,11 @@ use Rattle.step.specs.View.{View}
 use Rattle.maker.proofs.Counts.{cycles-used, not-first, not-second}
 use Rattle.word.proofs.Words.{and-true}
 use Rattle.maker.specs.Walk.{Walk, size, used, cycles, ending, linked, drawn, forkSize, forkUsed, forkCycles, forkLinked, lack}
-use Rattle.maker.specs.Making.{Outcome, Forks, unless, byOutcome, opening, closing, meeting, forkBy, forkAt, branchAt}
+use Rattle.maker.specs.Making.{Outcome, Forks, unless, byOutcome, qifRefusal, firstFiqRefusal, secondFiqRefusal, forkBy, forkAt, branchAt}
 use Rattle.maker.specs.Making.Outcome.{refused, ended}
 use Rattle.maker.specs.Making.Forks.{failed, forked}
-use Rattle.maker.specs.Idle.{machine, lands, sameWords, sameView}
-use Rattle.maker.specs.Parts.{viewAt, coinIn, heldOf, entered, left, refusedBy, walkedAt, walkedOf, Shown, ShownFork, closingOf, meetingOf}
+use Rattle.maker.specs.Idle.{machine, isBeforeStart, sameWords, sameView}
+use Rattle.maker.specs.Parts.{viewAt, coinIn, heldOf, entered, left, refusedBy, walkedAt, walkedOf, Shown, ShownFork, firstFiqRefusalOf, secondFiqRefusalOf}
 use Rattle.maker.specs.declared.Walked.{Walked}
 use Rattle.maker.proofs.Copies.{same-is}
 
@@ -40,23 +40,23 @@ ends o f p s e = rw e
 
 -- ---- what the tests give
 
-pub opened : (limit n u : ℕ) → opening machine limit n u ≡ 0 → (u < limit) × (n ≤ 509)
+pub opened : (limit n u : ℕ) → qifRefusal machine limit n u ≡ 0 → (u < limit) × (n ≤ 509)
 opened limit n u e =
     let x = not-first (leb limit u) 22 (pick (ltb 509 n) 23 0) e in
     (leb-false limit u (x .0), ltb-false 509 n (not-first (ltb 509 n) 22 0 (x .1) .0))
 
-pub shut-below : (k m limit a u : ℕ) (l z : List ℕ) → closingOf k m limit a u l z ≡ 0 → u < limit
-unfolding closingOf
+pub shut-below : (k m limit a u : ℕ) (l z : List ℕ) → firstFiqRefusalOf k m limit a u l z ≡ 0 → u < limit
+unfolding firstFiqRefusalOf
 shut-below k m limit a u l z e =
-    let x = not-first (lands (viewAt k m l z)) 17 (pick (leb limit u) 23 (pick (heldOf a 0 l z) 0 24)) e in
+    let x = not-first (isBeforeStart (viewAt k m l z)) 17 (pick (leb limit u) 23 (pick (heldOf a 0 l z) 0 24)) e in
     leb-false limit u (not-first (leb limit u) 22 (pick (heldOf a 0 l z) 0 24) (x .1) .0)
 
 -- the limit, the nodes, and that the states are the same
-pub met-below : (k m limit a n u : ℕ) (l z : List ℕ) (b : Bool) → meetingOf k m limit a n u l z b ≡ 0 → (u < limit) × (n ≤ 510) × (b ≡ true)
-unfolding meetingOf
+pub met-below : (k m limit a n u : ℕ) (l z : List ℕ) (b : Bool) → secondFiqRefusalOf k m limit a n u l z b ≡ 0 → (u < limit) × (n ≤ 510) × (b ≡ true)
+unfolding secondFiqRefusalOf
 met-below k m limit a n u l z b e =
     let rest : ℕ = pick (heldOf a 1 l z) (pick b 0 24) 24 in
-    let o = not-first (lands (viewAt k m l z)) 17 (pick (leb limit u) 23 (pick (ltb 510 n) 23 rest)) e in
+    let o = not-first (isBeforeStart (viewAt k m l z)) 17 (pick (leb limit u) 23 (pick (ltb 510 n) 23 rest)) e in
     let x = not-first (leb limit u) 22 (pick (ltb 510 n) 23 rest) (o .1) in
     let y = not-first (ltb 510 n) 22 rest (x .1) in
     let w = not-second (heldOf a 1 l z) 23 (pick b 0 24) (y .1) in
@@ -134,7 +134,7 @@ module _ (k w limit nest : ℕ) (from : Walked) (m₀ t : List ℕ) where
       ∙ ap₂ (λ (i j : ℕ). walkedAt x (u + forkUsed a b) i j j) (omega arith) (noded a b)
 
   module _ (deeper : ¬ (nest ≡ 0)) where
-    pub shut : (i : ℕ) (r : Walked) (l z : List ℕ) → i ≡ opening machine limit n u → ¬ (i ≡ 0) → r ≡ refusedBy i → Answers whole r l z
+    pub shut : (i : ℕ) (r : Walked) (l z : List ℕ) → i ≡ qifRefusal machine limit n u → ¬ (i ≡ 0) → r ≡ refusedBy i → Answers whole r l z
     unfolding forkBy
     shut i r l z e h q = out r l z (opens deeper ∙ stops _ i _ e h) (q, h)
 
@@ -142,7 +142,7 @@ module _ (k w limit nest : ℕ) (from : Walked) (m₀ t : List ℕ) where
     abbrev pub First : Walked → List ℕ → List ℕ → Type 0
     First r l z = Shown k w (deep (n + 2) (u + 1) (start 0)) (n + 1) (n + 2) (u + 1) t r l z
 
-    module _ (open-0 : opening machine limit n u ≡ 0) where
+    module _ (open-0 : qifRefusal machine limit n u ≡ 0) where
       pub refused₀ : (r : Walked) (l z y : List ℕ) → First r l z → ¬ (r .refusal ≡ 0) → Answers whole r l y
       unfolding forkBy
       refused₀ r l z y h i = go (deep (n + 2) (u + 1) (start 0)) refl h
@@ -172,27 +172,27 @@ module _ (k w limit nest : ℕ) (from : Walked) (m₀ t : List ℕ) where
         used₀ : a .used ≡ u + 1 + used (g .a)
         used₀ = ap (λ (y : Walked). y .used) (g .answer)
 
-        closed : (i : ℕ) → i ≡ closingOf k w limit c (a .used) (a .regs) z₀ → i ≡ closing machine limit here (u + 1 + used (g .a)) x₀
-        unfolding closingOf
-        closed i e = e ∙ ap (λ (y : ℕ). closing machine limit here y x₀) used₀
+        closed : (i : ℕ) → i ≡ firstFiqRefusalOf k w limit c (a .used) (a .regs) z₀ → i ≡ firstFiqRefusal machine limit here (u + 1 + used (g .a)) x₀
+        unfolding firstFiqRefusalOf
+        closed i e = e ∙ ap (λ (y : ℕ). firstFiqRefusal machine limit here y x₀) used₀
 
         abbrev after-close : Forks View
         after-close =
             byOutcome (deep (n + 2 + size (g .a)) (u + 1 + used (g .a) + 1) (start 1)) failed λ b x₁.
-            unless (meeting machine limit here (n + 2 + size (g .a) + size b) (u + 1 + used (g .a) + 1 + used b) x₀ x₁) (forked (g .a) b (machine .after here x₀))
+            unless (secondFiqRefusal machine limit here (n + 2 + size (g .a) + size b) (u + 1 + used (g .a) + 1 + used b) x₀ x₁) (forked (g .a) b (machine .after here x₀))
 
-        to-close : by ≡ unless (closing machine limit here (u + 1 + used (g .a)) x₀) after-close
+        to-close : by ≡ unless (firstFiqRefusal machine limit here (u + 1 + used (g .a)) x₀) after-close
         unfolding forkBy
         to-close = passes _ _ open-0 ∙ ends _ _ (g .a) x₀ (g .came)
 
-        pub shut₀ : (i : ℕ) (r : Walked) (l z : List ℕ) → i ≡ closingOf k w limit c (a .used) (a .regs) z₀ → ¬ (i ≡ 0) → r ≡ refusedBy i → Answers whole r l z
+        pub shut₀ : (i : ℕ) (r : Walked) (l z : List ℕ) → i ≡ firstFiqRefusalOf k w limit c (a .used) (a .regs) z₀ → ¬ (i ≡ 0) → r ≡ refusedBy i → Answers whole r l z
         shut₀ i r l z e h q = out r l z (opens deeper ∙ (to-close ∙ stops _ i _ (closed i e) h)) (q, h)
 
         -- what branch 1 says, from the memory m that was put back
         abbrev pub Then : List ℕ → Walked → List ℕ → List ℕ → Type 0
         Then m r l z = Shown k w (deep (a .nodes) (a .used + 1) (viewAt k w (entered s c 1) m)) (n + 2) (a .nodes) (a .used + 1) l₀ r l z
 
-        module _ (close-0 : closingOf k w limit c (a .used) (a .regs) z₀ ≡ 0) (m : List ℕ) (back : m ≡ m₀) where
+        module _ (close-0 : firstFiqRefusalOf k w limit c (a .used) (a .regs) z₀ ≡ 0) (m : List ℕ) (back : m ≡ m₀) where
           abbrev second : Outcome View
           second = deep (n + 2 + size (g .a)) (u + 1 + used (g .a) + 1) (start 1)
 
@@ -240,30 +240,30 @@ module _ (k w limit nest : ℕ) (from : Walked) (m₀ t : List ℕ) where
                 ∙ (ap (λ (y : ℕ). sameWords (left (a .regs) c y) (left (b .regs) c y) && sameWords z₀ z₁) was
                 ∙ sym (same-both k w (left (a .regs) c (getD s c 0)) z₀ (left (b .regs) c (getD s c 0)) z₁))
 
-            met : (i : ℕ) → i ≡ meetingOf k w limit c (b .nodes) (b .used) (b .regs) z₁ both
-                → i ≡ meeting machine limit here (n + 2 + size (g .a) + size (h .b)) (u + 1 + used (g .a) + 1 + used (h .b)) x₀ x₁
-            unfolding meetingOf
+            met : (i : ℕ) → i ≡ secondFiqRefusalOf k w limit c (b .nodes) (b .used) (b .regs) z₁ both
+                → i ≡ secondFiqRefusal machine limit here (n + 2 + size (g .a) + size (h .b)) (u + 1 + used (g .a) + 1 + used (h .b)) x₀ x₁
+            unfolding secondFiqRefusalOf
             met i e =
                 e
-                ∙ (ap (λ (y : Bool). meetingOf k w limit c (b .nodes) (b .used) (b .regs) z₁ y) both-is
-                ∙ ap₂ (λ (i j : ℕ). meeting machine limit here i j x₀ x₁) (ap (λ (y : Walked). y .nodes) (h .answer)) (ap (λ (y : Walked). y .used) (h .answer)))
+                ∙ (ap (λ (y : Bool). secondFiqRefusalOf k w limit c (b .nodes) (b .used) (b .regs) z₁ y) both-is
+                ∙ ap₂ (λ (i j : ℕ). secondFiqRefusal machine limit here i j x₀ x₁) (ap (λ (y : Walked). y .nodes) (h .answer)) (ap (λ (y : Walked). y .used) (h .answer)))
 
             to-meet : by
-                ≡ unless (meeting machine limit here (n + 2 + size (g .a) + size (h .b)) (u + 1 + used (g .a) + 1 + used (h .b)) x₀ x₁)
+                ≡ unless (secondFiqRefusal machine limit here (n + 2 + size (g .a) + size (h .b)) (u + 1 + used (g .a) + 1 + used (h .b)) x₀ x₁)
                 (forked (g .a) (h .b) (machine .after here x₀))
             to-meet = to-branch ∙ ends _ _ (h .b) x₁ (h .came)
 
-            pub shut₁ : (i : ℕ) (r : Walked) (l z : List ℕ) → i ≡ meetingOf k w limit c (b .nodes) (b .used) (b .regs) z₁ both → ¬ (i ≡ 0) → r ≡ refusedBy i
+            pub shut₁ : (i : ℕ) (r : Walked) (l z : List ℕ) → i ≡ secondFiqRefusalOf k w limit c (b .nodes) (b .used) (b .regs) z₁ both → ¬ (i ≡ 0) → r ≡ refusedBy i
                 → Answers whole r l z
             shut₁ i r l z e j q = out r l z (opens deeper ∙ (to-meet ∙ stops _ i _ (met i e) j)) (q, j)
 
-            same-memory : meetingOf k w limit c (b .nodes) (b .used) (b .regs) z₁ both ≡ 0 → z₀ ≡ z₁
+            same-memory : secondFiqRefusalOf k w limit c (b .nodes) (b .used) (b .regs) z₁ both ≡ 0 → z₀ ≡ z₁
             same-memory i =
                 same-is z₀ z₁ (and-true (sameWords (left (a .regs) c old) (left (b .regs) c old)) (sameWords z₀ z₁)
                 (sym told ∙ met-below k w limit c (b .nodes) (b .used) (b .regs) z₁ both i .2) .1)
 
             -- both came to their fiq and meet: the answer x, with the table d; the memory is branch 1's, which is branch 0's
-            pub done : (x : Walked) (d : List ℕ) → meetingOf k w limit c (b .nodes) (b .used) (b .regs) z₁ both ≡ 0
+            pub done : (x : Walked) (d : List ℕ) → secondFiqRefusalOf k w limit c (b .nodes) (b .used) (b .regs) z₁ both ≡ 0
                 → x ≡ walkedAt (left (a .regs) c old) (b .used + 1) (2 + (a .cycles + (b .cycles - a .cycles))) (b .nodes + 1) (b .nodes + 1)
                 → d ≡ linked v (n + 1) (n + 2) (a .node) (b .node) (b .nodes + 1) (b .cycles - a .cycles) (a .cycles - b .cycles) l₁
                 → Answers whole x d z₁

@@ -55,7 +55,7 @@ module _ {S : Type 0} (M : Walkable S) (t : List ℕ) (n : ℕ) where
       let m = link t n p nx in
       pick (leb (M .coin s) 1)
       (pick (paired t n p (lc (M .coin s)) v cl && paired t n p nx m pr)
-      (pick (M .lands s) (stuck 18) (pick (M .holds s₀ (M .coin s) s) (moved (guided (M .after s₀ s) m 0 l)) (stuck 24)))
+      (pick (M .isBeforeStart s) (stuck 18) (pick (M .holds s₀ (M .coin s) s) (moved (guided (M .after s₀ s) m 0 l)) (stuck 24)))
       (stuck 17))
       (stuck 16)
 

@@ -19,7 +19,7 @@ use Rattle.maker.specs.Walkable.{Look}
 use Rattle.maker.specs.Walkable.Look.{halts, last, goes, forks, joins}
 use Rattle.maker.proofs.Effects.{IsPlain, Fine, plain-effect, landed-effect}
 use Rattle.maker.specs.Claims.{isOneOf, walkRefusals}
-use Rattle.maker.specs.Idle.{opAt, kindOf, placed, lands, isRegister, ledTo, lookBy, lookAt}
+use Rattle.maker.specs.Idle.{opAt, kindOf, placed, isBeforeStart, isRegister, ledTo, lookBy, lookAt}
 
 -- ---- what a kind says of the operation
 
@@ -51,7 +51,7 @@ pub record AtQif (s : View) : Type 0 where
   pub named : isRegister s a ≡ true
   pub code : isCode (s .at) (pc s) ≡ true
   pub runs : finishes (s .memory) (pc s) ≡ false
-  pub free : lands s ≡ false
+  pub free : isBeforeStart s ≡ false
 
 pub record AtFiq (s : View) : Type 0 where
   pub a : ℕ
@@ -81,7 +81,7 @@ module _ (s : View) (code : isCode (s .at) (pc s) ≡ true) (runs : finishes (s 
   by-effect p (Refused n) d f = f
   by-effect p (Does e) d f = record { plain = p; e = e; does = d; code = code; runs = runs; next = refl }
 
-  by-qif : (a : ℕ) → opAt s ≡ Qif a → (x y : Bool) → isRegister s a ≡ x → lands s ≡ y → Says s (pick x (pick y (halts 18) forks) (halts 13))
+  by-qif : (a : ℕ) → opAt s ≡ Qif a → (x y : Bool) → isRegister s a ≡ x → isBeforeStart s ≡ y → Says s (pick x (pick y (halts 18) forks) (halts 13))
   by-qif a q true true h k = refl
   by-qif a q true false h k = record { a = a; op = q; named = h; code = code; runs = runs; free = k }
   by-qif a q false y h k = refl
@@ -94,7 +94,7 @@ module _ (s : View) (code : isCode (s .at) (pc s) ≡ true) (runs : finishes (s 
   by-kind Plain q =
       let p : IsPlain (kindOf (opAt s)) = subst IsPlain (sym q) tt in
       by-effect p _ refl (landed-effect (placed 0 0 0 s) _ (plain-effect (opAt s) p s))
-  by-kind (Opens a) q = by-qif a (subst (λ (k : Kind). Shape k (opAt s)) q (shape (opAt s))) (isRegister s a) (lands s) refl refl
+  by-kind (Opens a) q = by-qif a (subst (λ (k : Kind). Shape k (opAt s)) q (shape (opAt s))) (isRegister s a) (isBeforeStart s) refl refl
   by-kind (Closes a) q = by-fiq a (subst (λ (k : Kind). Shape k (opAt s)) q (shape (opAt s))) (isRegister s a) refl
 
 by-tests : (s : View) (x y : Bool) → isCode (s .at) (pc s) ≡ x → finishes (s .memory) (pc s) ≡ y

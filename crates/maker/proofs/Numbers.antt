@@ -11,7 +11,7 @@ use Rattle.maker.specs.Walk.Walk.{begin, step, fork}
 use Rattle.maker.specs.Walkable.{Look, Walkable}
 use Rattle.maker.specs.Walkable.Look.{halts, last, goes, forks, joins}
 use Rattle.maker.specs.Claims.{isOneOf, walkRefusals}
-use Rattle.maker.specs.Making.{Outcome, Forks, byLook, byOutcome, byForks, unless, opening, closing, meeting, forkBy, walkBy, forkAt, branchAt}
+use Rattle.maker.specs.Making.{Outcome, Forks, byLook, byOutcome, byForks, unless, qifRefusal, firstFiqRefusal, secondFiqRefusal, forkBy, walkBy, forkAt, branchAt}
 use Rattle.maker.specs.Making.Outcome.{refused, ended}
 use Rattle.maker.specs.Making.Forks.{failed, forked}
 
@@ -38,21 +38,21 @@ module _ {S : Type 0} (M : Walkable S) (law : (s : S) (k : ℕ) → M .look s �
   stopped (suc j) rest (inl e) h = absurd (omega (arith, e))
   stopped (suc j) rest (inr e) h = e
 
-  opens : (n u : ℕ) → Test (opening M limit n u)
+  opens : (n u : ℕ) → Test (qifRefusal M limit n u)
   opens n u = first (leb limit u) 23 (pick (ltb 509 n) 23 0) (inr refl) (first (ltb 509 n) 23 0 (inr refl) (inl refl))
 
-  closes : (s : S) (u : ℕ) (s₀ : S) → Test (closing M limit s u s₀)
+  closes : (s : S) (u : ℕ) (s₀ : S) → Test (firstFiqRefusal M limit s u s₀)
   closes s u s₀ =
       let coin : ℕ = pick (M .holds s 0 s₀) 0 24 in
-      first (M .lands s₀) 18 (pick (leb limit u) 23 coin) (inr refl)
+      first (M .isBeforeStart s₀) 18 (pick (leb limit u) 23 coin) (inr refl)
       (first (leb limit u) 23 coin (inr refl) (first (M .holds s 0 s₀) 0 24 (inl refl) (inr refl)))
 
-  meets : (s : S) (n u : ℕ) (s₀ s₁ : S) → Test (meeting M limit s n u s₀ s₁)
+  meets : (s : S) (n u : ℕ) (s₀ s₁ : S) → Test (secondFiqRefusal M limit s n u s₀ s₁)
   meets s n u s₀ s₁ =
       let same : ℕ = pick (M .same (M .after s s₀) (M .after s s₁)) 0 24 in
       let coin : ℕ = pick (M .holds s 1 s₁) same 24 in
       let node : ℕ = pick (ltb 510 n) 23 coin in
-      first (M .lands s₁) 18 (pick (leb limit u) 23 node) (inr refl)
+      first (M .isBeforeStart s₁) 18 (pick (leb limit u) 23 node) (inr refl)
       (first (leb limit u) 23 node (inr refl)
       (first (ltb 510 n) 23 coin (inr refl)
       (first (M .holds s 1 s₁) same 24 (first (M .same (M .after s s₀) (M .after s s₁)) 0 24 (inl refl) (inr refl)) (inr refl))))

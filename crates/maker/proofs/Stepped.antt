@@ -30,7 +30,7 @@ use Rattle.maker.specs.declared.Seen.{Seen}
 use Rattle.maker.specs.Walkable.{Look}
 use Rattle.maker.specs.Walkable.Look.{halts, last, goes, forks, joins}
 use Rattle.maker.specs.Claims.{isOneOf, walkRefusals}
-use Rattle.maker.specs.Idle.{isGate, idleOp, kindOf, lands, ledTo, plain, lookBy, lookAt}
+use Rattle.maker.specs.Idle.{isGate, idleOp, kindOf, isBeforeStart, ledTo, plain, lookBy, lookAt}
 use Rattle.maker.specs.Parts.{statusAt, viewAt, movedOn, Simple, Looks, Sized}
 use Rattle.maker.proofs.Effects.{IsPlain, NoNode, Fine, plain-effect, landed-effect}
 use Rattle.maker.proofs.Looked.{Shape, shape}
@@ -42,7 +42,7 @@ whole m z e = ap (λ (i : ℕ). take i z) (sym e) ∙ take-length z
 
 -- ---- a word that idles
 
-pub idle-looks : (k m : ℕ) (l z : List ℕ) (b : Bool) → lands (viewAt k m l z) ≡ b
+pub idle-looks : (k m : ℕ) (l z : List ℕ) (b : Bool) → isBeforeStart (viewAt k m l z) ≡ b
     → plain Start (viewAt k m l z) ≡ pick b (halts 18) (goes (viewAt k m (movedOn l) z))
 unfolding attempt landed refuse
 idle-looks k m l z true e = rw e
@@ -168,7 +168,7 @@ module _ (k m : ℕ) (l z : List ℕ) where
     shaped : (q : Kind) → kindOf (idleOp word) ≡ q → Shape q (idleOp word)
     shaped q e = subst (λ (k : Kind). Shape k (idleOp word)) e (shape (idleOp word))
 
-    pub look-qif : (a : ℕ) → length l ≡ 16 → kindOf (idleOp word) ≡ Opens a → (b : Bool) → lands (viewAt k m l z) ≡ b
+    pub look-qif : (a : ℕ) → length l ≡ 16 → kindOf (idleOp word) ≡ Opens a → (b : Bool) → isBeforeStart (viewAt k m l z) ≡ b
         → lookAt (viewAt k m l z) ≡ pick b (halts 18) forks
     look-qif a h e b q =
         by-kind (Opens a) e ∙ rw (qif-register (viewAt k m l z) word a h (shaped (Opens a) e), q)

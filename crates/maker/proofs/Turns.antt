@@ -23,7 +23,7 @@ use Rattle.machine.specs.Turn.{pc, br, atPc, stride, isCode, starts, finishes, 
 use Rattle.maker.specs.Walkable.Look.{goes, forks, joins}
 use Rattle.maker.proofs.Guided.{settled}
 use Rattle.maker.specs.declared.Kind.{Kind}
-use Rattle.maker.specs.Idle.{opAt, kindOf, coinOf, coinAt, placed, on, lands, lookAt, machine}
+use Rattle.maker.specs.Idle.{opAt, kindOf, coinOf, coinAt, placed, on, isBeforeStart, lookAt, machine}
 use Rattle.maker.specs.Follow.{Saved, saved, idled, plannedIdle, Walker, walker, byTurn, turnThen, cycleBy, cycle}
 use Rattle.maker.specs.Follow.Went.{went}
 use Rattle.maker.proofs.Effects.{IsPlain, NoNode, Fine, plain-effect, landed-effect}
@@ -44,7 +44,7 @@ module _ (t : List ℕ) (s : View) (sized : badSizes (s .at) (s .memory) t ≡ f
   planned-is =
       ap (λ (z : View). judged t Forward false (pc s) z (landed Forward z (idled t z))) (from-is s) ∙ judged-is (pc s) (landed Forward s (idled t s))
 
-  -- the turn, where the word's own attempt lands
+  -- the turn, where the word's own attempt isBeforeStart
   turns : (e : Effect) (f : View → Walker) → landed Forward s (idled t s) ≡ Does e → turnThen t s f ≡ went (f (to Forward (performed e s)))
   turns e f h =
       ap (λ (x : Attempt). byTurn x s f) (planned-is ∙ h) ∙ ap (λ (z : View). went (f (to Forward (performed e z)))) (from-is s)
@@ -73,7 +73,7 @@ plain-attempt t N v (Exchange a x) p s = refl
 plain-attempt t N v (Qif a) p s = absurd p
 plain-attempt t N v (Fiq a) p s = absurd p
 
--- placed at a node, an attempt without one lands as it does there
+-- placed at a node, an attempt without one isBeforeStart as it does there
 landed-placed : (N v : ℕ) (s : View) (x : Attempt) → Fine x → landed Forward (placed N v 0 s) x ≡ landed Forward (placed 0 0 0 s) x
 unfolding landed
 landed-placed N v s (Refused n) h = refl
@@ -104,14 +104,14 @@ module _ (t : List ℕ) (N : ℕ) where
   goes-on s z v x l sized e =
       let q = at-plain s z e in
       let there : idled t (placed N v 0 s) ≡ attempt [] Forward (opAt s) (placed 0 0 0 s) = plain-attempt t N v (opAt s) (q .plain) s in
-      let lands : landed Forward (placed N v 0 s) (idled t (placed N v 0 s)) ≡ Does (q .e) = ap (landed Forward (placed N v 0 s)) there ∙ (landed-placed N v s (attempt [] Forward (opAt s) (placed 0 0 0 s)) (plain-effect (opAt s) (q .plain) s) ∙ q .does) in
+      let isBeforeStart : landed Forward (placed N v 0 s) (idled t (placed N v 0 s)) ≡ Does (q .e) = ap (landed Forward (placed N v 0 s)) there ∙ (landed-placed N v s (attempt [] Forward (opAt s) (placed 0 0 0 s)) (plain-effect (opAt s) (q .plain) s) ∙ q .does) in
       plain-cycle t x (kindOf (opAt s)) (q .plain) (placed N v 0 s) l
-      ∙ (turns t (placed N v 0 s) sized (q .code) (q .runs) (q .e) (λ y. walker y l) lands
+      ∙ (turns t (placed N v 0 s) sized (q .code) (q .runs) (q .e) (λ y. walker y l) isBeforeStart
       ∙ ap (λ (y : View). went (walker y l)) (to-placed N v s (q .e) (goes-plain s z e) ∙ ap (placed N v 0) (q .next)))
 
 -- ---- an effect that sets node and wait count
 
-set-lands : (s : View) (u j : ℕ) → lands s ≡ false → landed Forward s (Does (SetNode u j)) ≡ Does (SetNode u j)
+set-lands : (s : View) (u j : ℕ) → isBeforeStart s ≡ false → landed Forward s (Does (SetNode u j)) ≡ Does (SetNode u j)
 unfolding landed refuse
 set-lands s u j h = go (eqb j 0)
   where
@@ -154,7 +154,7 @@ module _ (t : List ℕ) (N : ℕ) where
       let u = link t N v (fc x) in
       let s′ : View = withReg s (q .a) x in
       let does : idled t (placed N v 0 s′) ≡ Does (SetNode u (link t N u w)) = ap (λ (o : Op). attempt t Forward o (placed N v 0 s′)) (op-stays s (q .a) x (q .named) ∙ q .op) ∙ enters s′ v (q .a) x b (reads s (q .a) x (q .named)) p in
-      let free : lands (placed N v 0 s′) ≡ false = ap₂ (λ (i j : ℕ). starts (s .at) (s .memory) (shifted Forward i (stride j))) (pc-stays s (q .a) x (q .named)) (br-stays s (q .a) x (q .named)) ∙ q .free in
+      let free : isBeforeStart (placed N v 0 s′) ≡ false = ap₂ (λ (i j : ℕ). starts (s .at) (s .memory) (shifted Forward i (stride j))) (pc-stays s (q .a) x (q .named)) (br-stays s (q .a) x (q .named)) ∙ q .free in
       let here : coinAt s ≡ q .a = ap (λ (o : Op). coinOf (kindOf o)) (q .op) in
       ap (λ (o : Op). cycleBy t x (kindOf o) (placed N v 0 s) l) (q .op)
       ∙ (turns t (placed N v 0 s′) sized (ap (isCode (s .at)) (pc-stays s (q .a) x (q .named)) ∙ q .code) (ap (finishes (s .memory)) (pc-stays s (q .a) x (q .named)) ∙ q .runs) (SetNode u (link t N u w)) (λ z. walker z (saved s (q .a) ∷ l))
@@ -176,7 +176,7 @@ module _ (t : List ℕ) (N : ℕ) where
       (ap (λ (y : Attempt). landed Forward (placed N v j s) y) does ∙ set-lands (placed N v j s) v (j - 1) (q .free))
       ∙ ap (λ (y : View). went (walker y l)) (set-to t N N v (j - 1) v j s)))
 
-  pub fiq-ends : (s s₀ : View) (v x : ℕ) (l : List Saved) → Sized t N s → reg s (coinAt s) ≤ 1 → lookAt s ≡ joins → lands s ≡ false
+  pub fiq-ends : (s s₀ : View) (v x : ℕ) (l : List Saved) → Sized t N s → reg s (coinAt s) ≤ 1 → lookAt s ≡ joins → isBeforeStart s ≡ false
       → (paired t N (link t N v cl) (lc (reg s (coinAt s))) v cl && paired t N (link t N v cl) nx (link t N (link t N v cl) nx) pr) ≡ true
       → cycle t x (walker (placed N v 0 s) (saved s₀ (coinAt s₀) ∷ l))
       ≡ went (walker (placed N (link t N (link t N v cl) nx) 0 (withReg (on s) (coinAt s₀) (reg s₀ (coinAt s₀)))) l)

@@ -65,8 +65,8 @@ placed n v j s =
 abbrev pub on : View → View
 on s = atPc s (shifted Forward (pc s) (stride (br s)))
 
-abbrev pub lands : View → Bool
-lands s = starts (s .at) (s .memory) (shifted Forward (pc s) (stride (br s)))
+abbrev pub isBeforeStart : View → Bool
+isBeforeStart s = starts (s .at) (s .memory) (shifted Forward (pc s) (stride (br s)))
 
 -- where an attempt leads
 abbrev pub ledTo : View → Attempt → Look View
@@ -83,7 +83,7 @@ isRegister s a = ltb 1 a && ltb a (length (s .regs))
 
 abbrev pub lookBy : Kind → Op → View → Look View
 lookBy Plain o s = plain o s
-lookBy (Opens a) o s = pick (isRegister s a) (pick (lands s) (halts 18) forks) (halts 13)
+lookBy (Opens a) o s = pick (isRegister s a) (pick (isBeforeStart s) (halts 18) forks) (halts 13)
 lookBy (Closes a) o s = pick (isRegister s a) joins (halts 13)
 
 unfoldable pub lookAt : View → Look View
@@ -120,5 +120,5 @@ machine =
       holds = λ s x z. eqb (coinAt s) (coinAt z) && eqb (reg z (coinAt z)) x;
       after = λ s z. withReg (on z) (coinAt s) (reg s (coinAt s));
       same = sameView;
-      lands = lands;
+      isBeforeStart = isBeforeStart;
     }

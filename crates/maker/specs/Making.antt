@@ -40,17 +40,17 @@ unless (suc k) rest = failed (suc k)
 
 module _ {S : Type 0} (M : Walkable S) (limit : ℕ) where
   -- at a qif with n nodes made and u cycles used: 23 where the limit is, or where two nodes more would be above 511
-  abbrev pub opening : ℕ → ℕ → ℕ
-  opening n u = pick (leb limit u) 23 (pick (ltb 509 n) 23 0)
+  abbrev pub qifRefusal : ℕ → ℕ → ℕ
+  qifRefusal n u = pick (leb limit u) 23 (pick (ltb 509 n) 23 0)
 
   -- at the fiq of branch 0, in s₀, of the qif at s: 18, 23, 24
-  abbrev pub closing : S → ℕ → S → ℕ
-  closing s u s₀ = pick (M .lands s₀) 18 (pick (leb limit u) 23 (pick (M .holds s 0 s₀) 0 24))
+  abbrev pub firstFiqRefusal : S → ℕ → S → ℕ
+  firstFiqRefusal s u s₀ = pick (M .isBeforeStart s₀) 18 (pick (leb limit u) 23 (pick (M .holds s 0 s₀) 0 24))
 
   -- at the fiq of branch 1, in s₁: 18, 23, also where one node more would be above 511, and 24
-  abbrev pub meeting : S → ℕ → ℕ → S → S → ℕ
-  meeting s n u s₀ s₁ =
-      pick (M .lands s₁) 18
+  abbrev pub secondFiqRefusal : S → ℕ → ℕ → S → S → ℕ
+  secondFiqRefusal s n u s₀ s₁ =
+      pick (M .isBeforeStart s₁) 18
       (pick (leb limit u) 23
       (pick (ltb 510 n) 23
       (pick (M .holds s 1 s₁)
@@ -59,11 +59,11 @@ module _ {S : Type 0} (M : Walkable S) (limit : ℕ) where
   -- a qif at s, over what a branch does: branch 0, and branch 1 from the same state
   unfoldable pub forkBy : (ℕ → ℕ → S → Outcome S) → ℕ → ℕ → S → Forks S
   forkBy branch n u s =
-      unless (opening n u)
+      unless (qifRefusal n u)
       (byOutcome (branch (n + 2) (u + 1) (M .on (M .coined s 0))) failed λ a s₀.
-      unless (closing s (u + 1 + used a) s₀)
+      unless (firstFiqRefusal s (u + 1 + used a) s₀)
       (byOutcome (branch (n + 2 + size a) (u + 1 + used a + 1) (M .on (M .coined s 1))) failed λ b s₁.
-      unless (meeting s (n + 2 + size a + size b) (u + 1 + used a + 1 + used b) s₀ s₁)
+      unless (secondFiqRefusal s (n + 2 + size a + size b) (u + 1 + used a + 1 + used b) s₀ s₁)
       (forked a b (M .after s s₀))))
 
   -- a branch, or where it is not inside one the whole walk, over what a qif does: p is the walk so far, from n nodes made and u cycles

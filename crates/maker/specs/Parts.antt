@@ -22,7 +22,7 @@ use Rattle.maker.specs.Walkable.Look.{halts, last, goes, forks, joins}
 use Rattle.maker.specs.Making.{Outcome, Forks}
 use Rattle.maker.specs.Making.Outcome.{refused, ended}
 use Rattle.maker.specs.Making.Forks.{failed, forked}
-use Rattle.maker.specs.Idle.{idleOp, kindOf, coinOf, lands}
+use Rattle.maker.specs.Idle.{idleOp, kindOf, coinOf, isBeforeStart}
 
 -- ---- views without node and wait count
 
@@ -99,10 +99,10 @@ ShownFork k w (forked a b x) v n u t r l z =
 abbrev pub heldOf : ℕ → ℕ → List ℕ → List ℕ → Bool
 heldOf a x l z = eqb a (coinIn l z) && eqb (getD l (coinIn l z) 0) x
 
-unfoldable pub closingOf : ℕ → ℕ → ℕ → ℕ → ℕ → List ℕ → List ℕ → ℕ
-closingOf k m limit a u l z = pick (lands (viewAt k m l z)) 18 (pick (leb limit u) 23 (pick (heldOf a 0 l z) 0 24))
+unfoldable pub firstFiqRefusalOf : ℕ → ℕ → ℕ → ℕ → ℕ → List ℕ → List ℕ → ℕ
+firstFiqRefusalOf k m limit a u l z = pick (isBeforeStart (viewAt k m l z)) 18 (pick (leb limit u) 23 (pick (heldOf a 0 l z) 0 24))
 
 -- e: registers and memory are the same
-unfoldable pub meetingOf : ℕ → ℕ → ℕ → ℕ → ℕ → ℕ → List ℕ → List ℕ → Bool → ℕ
-meetingOf k m limit a n u l z e =
-    pick (lands (viewAt k m l z)) 18 (pick (leb limit u) 23 (pick (ltb 510 n) 23 (pick (heldOf a 1 l z) (pick e 0 24) 24)))
+unfoldable pub secondFiqRefusalOf : ℕ → ℕ → ℕ → ℕ → ℕ → ℕ → List ℕ → List ℕ → Bool → ℕ
+secondFiqRefusalOf k m limit a n u l z e =
+    pick (isBeforeStart (viewAt k m l z)) 18 (pick (leb limit u) 23 (pick (ltb 510 n) 23 (pick (heldOf a 1 l z) (pick e 0 24) 24)))

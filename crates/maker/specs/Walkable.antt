@@ -22,4 +22,4 @@ pub record Walkable (S : Type 0) : Type 0 where
   pub after : S → S → S
   pub same : S → S → Bool
   -- 18: the word behind the one at pc is start
-  pub lands : S → Bool
+  pub isBeforeStart : S → Bool

@@ -6,7 +6,7 @@ ghost use Rattle.qins.specs.Op.{Op};
 ghost use Rattle.machine.specs.Calls.{recordAt};
 ghost use Rattle.maker.specs.declared.Kind.{Kind};
 ghost use Rattle.maker.specs.declared.Seen.{Seen};
-ghost use Rattle.maker.specs.Idle.{isGate, idleOp, kindOf, coinOf, lands, plain, lookAt};
+ghost use Rattle.maker.specs.Idle.{isGate, idleOp, kindOf, coinOf, isBeforeStart, plain, lookAt};
 ghost use Rattle.maker.specs.Parts.{statusAt, viewAt, movedOn, coinIn, Simple, Looks, Sized};
 ghost use lib.IntN.{pos};
 use crate::Advanced;
@@ -62,7 +62,7 @@ pub(crate) fn coin_at(m: u32, regs: &[u32], mem: &[u32]) -> usize
 // 18: the word behind the one at pc is start.
 pub(crate) fn is_before_start(k: u32, m: u32, regs: &[u32], mem: &[u32]) -> bool
     requires { ⌜ length (now mem) ≡ m ⌝ }
-    ensures { λ r. ⌜ r ≡ lands (viewAt k m (now (regs .entry)) (now (mem .entry))) ⌝ }
+    ensures { λ r. ⌜ r ≡ isBeforeStart (viewAt k m (now (regs .entry)) (now (mem .entry))) ⌝ }
 {
     let br = look(regs, 1);
     let next = word::add_word(look(regs, 0), word::choose(br == 0, 1, br));

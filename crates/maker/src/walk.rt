@@ -5,9 +5,9 @@ ghost use mathlib.Core.Bool.{_&&_};
 ghost use Prim.Native.Nat.{_+_, _-_, _≤_, _<_};
 ghost use lib.ListN.{length, take};
 ghost use Rattle.maker.specs.Walk.{linked};
-ghost use Rattle.maker.specs.Making.{opening, branchAt, forkAt};
+ghost use Rattle.maker.specs.Making.{qifRefusal, branchAt, forkAt};
 ghost use Rattle.maker.specs.Idle.{machine, sameWords};
-ghost use Rattle.maker.specs.Parts.{viewAt, entered, left, heldOf, Sized, Room, refusedBy, walkedAt, Shown, ShownFork, closingOf, meetingOf};
+ghost use Rattle.maker.specs.Parts.{viewAt, entered, left, heldOf, Sized, Room, refusedBy, walkedAt, Shown, ShownFork, firstFiqRefusalOf, secondFiqRefusalOf};
 use crate::Seen;
 use crate::Walked;
 use crate::copy::copy;
@@ -71,8 +71,8 @@ fn leave(at: Walked, a: usize, old: u32) -> [u32; 16]
 
 // ---- the tests of a qif
 
-fn opening(limit: u32, from: Walked) -> u32
-    ensures { λ r. ⌜ r ≡ opening machine limit (from .nodes) (from .used) ⌝ }
+fn qif_refusal(limit: u32, from: Walked) -> u32
+    ensures { λ r. ⌜ r ≡ qifRefusal machine limit (from .nodes) (from .used) ⌝ }
 {
     if limit <= from.used {
         return 23;
@@ -94,9 +94,9 @@ fn holds(m: u32, a: usize, x: u32, at: Walked, mem: &[u32]) -> bool
 }
 
 // At the fiq of branch 0.
-fn closing(k: u32, m: u32, limit: u32, a: usize, at: Walked, mem: &[u32]) -> u32
+fn first_fiq_refusal(k: u32, m: u32, limit: u32, a: usize, at: Walked, mem: &[u32]) -> u32
     requires { ⌜ length (now mem) ≡ m ⌝ }
-    ensures { λ r. ⌜ r ≡ closingOf k m limit a (at .used) (at .regs) (now (mem .entry)) ⌝ }
+    ensures { λ r. ⌜ r ≡ firstFiqRefusalOf k m limit a (at .used) (at .regs) (now (mem .entry)) ⌝ }
 {
     let regs = at.regs;
     if is_before_start(k, m, &regs, mem) {
@@ -121,9 +121,17 @@ fn agree(a: usize, old: u32, first: Walked, second: Walked, mem: &[u32], saved: 
 }
 
 // At the fiq of branch 1; same is what agree tells.
-fn meeting(k: u32, m: u32, limit: u32, a: usize, at: Walked, mem: &[u32], same: bool) -> u32
+fn second_fiq_refusal(
+    k: u32,
+    m: u32,
+    limit: u32,
+    a: usize,
+    at: Walked,
+    mem: &[u32],
+    same: bool,
+) -> u32
     requires { ⌜ length (now mem) ≡ m ⌝ }
-    ensures { λ r. ⌜ r ≡ meetingOf k m limit a (at .nodes) (at .used) (at .regs) (now (mem .entry)) same ⌝ }
+    ensures { λ r. ⌜ r ≡ secondFiqRefusalOf k m limit a (at .nodes) (at .used) (at .regs) (now (mem .entry)) same ⌝ }
 {
     let regs = at.regs;
     if is_before_start(k, m, &regs, mem) {
@@ -260,7 +268,7 @@ pub(crate) fn fork(
     if nest == 0 {
         return refuse(23);
     }
-    let o = opening(limit, from);
+    let o = qif_refusal(limit, from);
     if o != 0 {
         return refuse(o);
     }
@@ -284,7 +292,7 @@ pub(crate) fn fork(
     if a.refusal != 0 {
         return a;
     }
-    let shut = closing(k, m, limit, c, a, mem);
+    let shut = first_fiq_refusal(k, m, limit, c, a, mem);
     if shut != 0 {
         return refuse(shut);
     }
@@ -305,7 +313,7 @@ pub(crate) fn fork(
         return b;
     }
     let same = agree(c, old, a, b, mem, scratch);
-    let met = meeting(k, m, limit, c, b, mem, same);
+    let met = second_fiq_refusal(k, m, limit, c, b, mem, same);
     if met != 0 {
         return refuse(met);
     }

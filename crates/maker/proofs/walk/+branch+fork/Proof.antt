@@ -9,8 +9,8 @@ use lib.ListN.{length, getD}
 use denote.Ref.{now}
 use borrow.Author.Needs.{needs}
 use Rattle.maker.specs.declared.Walked.{Walked}
-use Rattle.maker.specs.Parts.{Room, walkedAt, coinIn, entered, left, closingOf, meetingOf}
-use Rattle.maker.specs.Making.{opening}
+use Rattle.maker.specs.Parts.{Room, walkedAt, coinIn, entered, left, firstFiqRefusalOf, secondFiqRefusalOf}
+use Rattle.maker.specs.Making.{qifRefusal}
 use Rattle.maker.specs.Idle.{sameWords, machine}
 use Rattle.maker.proofs.Copies.{put-back, told-same}
 use Rattle.maker.proofs.Rooms.{fits, as-long, deeper, sized}
@@ -30,13 +30,13 @@ use Rattle.maker.proofs.copy.exchange.Reads as exchange-reads
 use Rattle.maker.proofs.look.advance.Reads as advance-reads
 use Rattle.maker.proofs.look.coin_at.Reads as coin-at-reads
 use Rattle.maker.proofs.walk.agree.Reads as agree-reads
-use Rattle.maker.proofs.walk.closing.Reads as closing-reads
 use Rattle.maker.proofs.walk.enter.Reads as enter-reads
+use Rattle.maker.proofs.walk.first_fiq_refusal.Reads as first-fiq-refusal-reads
 use Rattle.maker.proofs.walk.join.Reads as join-reads
 use Rattle.maker.proofs.walk.leave.Reads as leave-reads
-use Rattle.maker.proofs.walk.meeting.Reads as meeting-reads
-use Rattle.maker.proofs.walk.opening.Reads as opening-reads
+use Rattle.maker.proofs.walk.qif_refusal.Reads as qif-refusal-reads
 use Rattle.maker.proofs.walk.refuse.Reads as refuse-reads
+use Rattle.maker.proofs.walk.second_fiq_refusal.Reads as second-fiq-refusal-reads
 use Rattle.maker.proofs.walk.walked_at.Reads as walked-at-reads
 use Rattle.step.proofs.lent.look.Reads as look-reads
 use Rattle.maker.proofs.walk.+branch+fork.{statement}
@@ -84,8 +84,8 @@ abbrev fork-said : ℕ → fork-lts.Claims
 fork-said t = (
   refuse-reads.Asked,
   refuse-reads.Learnt,
-  opening-reads.Asked,
-  opening-reads.Learnt,
+  qif-refusal-reads.Asked,
+  qif-refusal-reads.Learnt,
   coin-at-reads.Asked,
   coin-at-reads.Learnt,
   look-reads.Asked,
@@ -96,14 +96,14 @@ fork-said t = (
   enter-reads.Learnt,
   branch-below t,
   branch.Post,
-  closing-reads.Asked,
-  closing-reads.Learnt,
+  first-fiq-refusal-reads.Asked,
+  first-fiq-refusal-reads.Learnt,
   exchange-reads.Asked,
   exchange-reads.Learnt,
   agree-reads.Asked,
   agree-reads.Learnt,
-  meeting-reads.Asked,
-  meeting-reads.Learnt,
+  second-fiq-refusal-reads.Asked,
+  second-fiq-refusal-reads.Learnt,
   leave-reads.Asked,
   leave-reads.Learnt,
   join-reads.Asked,
@@ -163,10 +163,10 @@ room t c =
 is-open : (t : ℕ) (c : fork-lts.Else2 (fork-said t) (fork-at t) fork.Post) →
     let start′ = begin-of t (c .before .before) in
     let g = start′ .args in
-    opening machine (g .limit) (g .from .nodes) (g .from .used) ≡ 0
+    qifRefusal machine (g .limit) (g .from .nodes) (g .from .used) ≡ 0
 is-open t c =
-    let opening′ = c .before in
-    sym (opening′ .opening .ensures) ∙ c .if2 .left
+    let qif-refusal′ = c .before in
+    sym (qif-refusal′ .qif-refusal .ensures) ∙ c .if2 .left
 
 said₀ : (t : ℕ) (c : fork-lts.After-branch (fork-said t) (fork-at t) fork.Post) →
     let if1′ = (open-of t (copy-of t c)) .before .before in
@@ -202,29 +202,29 @@ came-0 t c =
     came₀ (g .k) (g .m) (g .limit) (g .nest) (g .from) (now (g .mem)) (now (g .table)) (if1′ .if1 .left) (is-open t if2′) (branch′ .branch .result)
     (branch′ .branch .last .1 .1 .1 .1 .1 .1 .1 .1 .0) (branch′ .branch .last .1 .1 .1 .1 .1 .1 .0) (said₀ t branch′) (c .if3 .left)
 
-shut-is : (t : ℕ) (c : fork-lts.After-closing (fork-said t) (fork-at t) fork.Post) →
+shut-is : (t : ℕ) (c : fork-lts.After-first-fiq-refusal (fork-said t) (fork-at t) fork.Post) →
     let branch′ = branch-of t (c .before .before .before) in
     let start′ = begin-of t ((open-of t (copy-of t branch′)) .before .before) in
     let g = start′ .args in
-    c .closing .result ≡ (closingOf (g .k) (g .m) (g .limit) (coinIn (g .from .regs) (now (g .mem))) (branch′ .branch .result .used)
+    c .first-fiq-refusal .result ≡ (firstFiqRefusalOf (g .k) (g .m) (g .limit) (coinIn (g .from .regs) (now (g .mem))) (branch′ .branch .result .used)
     (branch′ .branch .result .regs) (branch′ .branch .last .1 .1 .1 .1 .1 .1 .0))
 shut-is t c =
     let branch′ = branch-of t (c .before .before .before) in
     let coin-at′ = (copy-of t branch′) .before .before .before .before .before in
     let start′ = begin-of t (coin-at′ .before .before .before .before .before .before) in
     let g = start′ .args in
-    c .closing .ensures ∙ ap (λ (i : ℕ). closingOf (g .k) (g .m) (g .limit) i (branch′ .branch .result .used) (branch′ .branch .result .regs)
-    (branch′ .branch .last .1 .1 .1 .1 .1 .1 .0)) (coin-at′ .coin-at .ensures)
+    c .first-fiq-refusal .ensures ∙ ap (λ (i : ℕ). firstFiqRefusalOf (g .k) (g .m) (g .limit) i (branch′ .branch .result .used)
+    (branch′ .branch .result .regs) (branch′ .branch .last .1 .1 .1 .1 .1 .1 .0)) (coin-at′ .coin-at .ensures)
 
 closed : (t : ℕ) (c : fork-lts.Else4 (fork-said t) (fork-at t) fork.Post) →
     let branch′ = branch-of t (c .before .before .before .before) in
     let start′ = begin-of t ((open-of t (copy-of t branch′)) .before .before) in
     let g = start′ .args in
-    (closingOf (g .k) (g .m) (g .limit) (coinIn (g .from .regs) (now (g .mem))) (branch′ .branch .result .used) (branch′ .branch .result .regs)
+    (firstFiqRefusalOf (g .k) (g .m) (g .limit) (coinIn (g .from .regs) (now (g .mem))) (branch′ .branch .result .used) (branch′ .branch .result .regs)
     (branch′ .branch .last .1 .1 .1 .1 .1 .1 .0)) ≡ 0
 closed t c =
-    let closing′ = c .before in
-    sym (shut-is t closing′) ∙ c .if4 .left
+    let first-fiq-refusal′ = c .before in
+    sym (shut-is t first-fiq-refusal′) ∙ c .if4 .left
 
 back : (t : ℕ) (c : fork-lts.After-exchange (fork-said t) (fork-at t) fork.Post) →
     let start′ = begin-of t ((open-of t ((copy-of t ((branch-of t (first-of t c)))))) .before .before) in
@@ -320,32 +320,34 @@ told t c =
     ((branch2′ .branch2 .kept .1 .1 .1 .1 .1 .1 .0 ∙ (exchange′ .exchange .kept .0 ∙ branch′ .branch .kept .1 .1 .1 .1 .1 .1 .0)))
     (exchange′ .exchange .ensures .1) refl)
 
-met-is : (t : ℕ) (c : fork-lts.After-meeting (fork-said t) (fork-at t) fork.Post) →
+met-is : (t : ℕ) (c : fork-lts.After-second-fiq-refusal (fork-said t) (fork-at t) fork.Post) →
     let agree′ = c .before .before in
     let branch2′ = branch2-of t (agree′ .before .before .before .before) in
     let start′ = begin-of t ((open-of t ((copy-of t ((branch-of t ((first-of t (exchange-of t branch2′)))))))) .before .before) in
     let g = start′ .args in
-    c .meeting .result ≡ (meetingOf (g .k) (g .m) (g .limit) (coinIn (g .from .regs) (now (g .mem))) (branch2′ .branch2 .result .nodes)
-    (branch2′ .branch2 .result .used) (branch2′ .branch2 .result .regs) (branch2′ .branch2 .last .1 .1 .1 .1 .1 .1 .0) (agree′ .agree .result))
+    c .second-fiq-refusal .result ≡ (secondFiqRefusalOf (g .k) (g .m) (g .limit) (coinIn (g .from .regs) (now (g .mem)))
+    (branch2′ .branch2 .result .nodes) (branch2′ .branch2 .result .used) (branch2′ .branch2 .result .regs) (branch2′ .branch2 .last .1 .1 .1 .1 .1 .1 .0)
+    (agree′ .agree .result))
 met-is t c =
     let agree′ = c .before .before in
     let branch2′ = branch2-of t (agree′ .before .before .before .before) in
     let coin-at′ = (copy-of t ((branch-of t ((first-of t (exchange-of t branch2′)))))) .before .before .before .before .before in
     let start′ = begin-of t (coin-at′ .before .before .before .before .before .before) in
     let g = start′ .args in
-    c .meeting .ensures ∙ ap (λ (i : ℕ). meetingOf (g .k) (g .m) (g .limit) i (branch2′ .branch2 .result .nodes) (branch2′ .branch2 .result .used)
-    (branch2′ .branch2 .result .regs) (branch2′ .branch2 .last .1 .1 .1 .1 .1 .1 .0) (agree′ .agree .result)) (coin-at′ .coin-at .ensures)
+    c .second-fiq-refusal .ensures ∙ ap (λ (i : ℕ). secondFiqRefusalOf (g .k) (g .m) (g .limit) i (branch2′ .branch2 .result .nodes)
+    (branch2′ .branch2 .result .used) (branch2′ .branch2 .result .regs) (branch2′ .branch2 .last .1 .1 .1 .1 .1 .1 .0) (agree′ .agree .result))
+    (coin-at′ .coin-at .ensures)
 
 met : (t : ℕ) (c : fork-lts.Else6 (fork-said t) (fork-at t) fork.Post) →
     let agree′ = c .before .before .before in
     let branch2′ = branch2-of t (agree′ .before .before .before .before) in
     let start′ = begin-of t ((open-of t ((copy-of t ((branch-of t ((first-of t (exchange-of t branch2′)))))))) .before .before) in
     let g = start′ .args in
-    (meetingOf (g .k) (g .m) (g .limit) (coinIn (g .from .regs) (now (g .mem))) (branch2′ .branch2 .result .nodes) (branch2′ .branch2 .result .used)
-    (branch2′ .branch2 .result .regs) (branch2′ .branch2 .last .1 .1 .1 .1 .1 .1 .0) (agree′ .agree .result)) ≡ 0
+    (secondFiqRefusalOf (g .k) (g .m) (g .limit) (coinIn (g .from .regs) (now (g .mem))) (branch2′ .branch2 .result .nodes)
+    (branch2′ .branch2 .result .used) (branch2′ .branch2 .result .regs) (branch2′ .branch2 .last .1 .1 .1 .1 .1 .1 .0) (agree′ .agree .result)) ≡ 0
 met t c =
-    let meeting′ = c .before in
-    sym (met-is t meeting′) ∙ c .if6 .left
+    let second-fiq-refusal′ = c .before in
+    sym (met-is t second-fiq-refusal′) ∙ c .if6 .left
 
 -- ---- what is to be shown, where it is not short
 
@@ -512,11 +514,11 @@ fork-returns t c =
 fork-returns-2 : (t : ℕ) → fork-lts.Need-returns-2 (fork-said t) (fork-at t) fork.Post
 fork-returns-2 t c =
     let if2′ = c .before in
-    let opening′ = if2′ .before in
-    let if1′ = opening′ .before in
+    let qif-refusal′ = if2′ .before in
+    let if1′ = qif-refusal′ .before in
     let start′ = begin-of t if1′ in
     let g = start′ .args in
-    shut (g .k) (g .m) (g .limit) (g .nest) (g .from) (now (g .mem)) (now (g .table)) (if1′ .if1 .left) _ _ _ _ (opening′ .opening .ensures)
+    shut (g .k) (g .m) (g .limit) (g .nest) (g .from) (now (g .mem)) (now (g .table)) (if1′ .if1 .left) _ _ _ _ (qif-refusal′ .qif-refusal .ensures)
     (if2′ .if2 .taken) (c .refuse2 .ensures)
 
 fork-branch-requires : (t : ℕ) → fork-lts.Need-branch-requires (fork-said t) (fork-at t) fork.Post
@@ -546,15 +548,15 @@ fork-returns-3 t c =
 fork-returns-4 : (t : ℕ) → fork-lts.Need-returns-4 (fork-said t) (fork-at t) fork.Post
 fork-returns-4 t c =
     let if4′ = c .before in
-    let closing′ = if4′ .before in
-    let if3′ = closing′ .before .before in
+    let first-fiq-refusal′ = if4′ .before in
+    let if3′ = first-fiq-refusal′ .before .before in
     let branch′ = branch-of t (if3′ .before) in
     let if2′ = open-of t (copy-of t branch′) in
     let if1′ = if2′ .before .before in
     let start′ = begin-of t if1′ in
     let g = start′ .args in
     shut₀ (g .k) (g .m) (g .limit) (g .nest) (g .from) (now (g .mem)) (now (g .table)) (if1′ .if1 .left) (is-open t if2′) (branch′ .branch .result)
-    (branch′ .branch .last .1 .1 .1 .1 .1 .1 .1 .1 .0) (branch′ .branch .last .1 .1 .1 .1 .1 .1 .0) (came-0 t if3′) _ _ _ _ (shut-is t closing′)
+    (branch′ .branch .last .1 .1 .1 .1 .1 .1 .1 .1 .0) (branch′ .branch .last .1 .1 .1 .1 .1 .1 .0) (came-0 t if3′) _ _ _ _ (shut-is t first-fiq-refusal′)
     (if4′ .if4 .taken) (c .refuse3 .ensures)
 
 fork-add-enter-4 : (t : ℕ) → fork-lts.Need-add-enter-4 (fork-said t) (fork-at t) fork.Post
@@ -634,8 +636,8 @@ fork-same-length-11 t c =
 fork-returns-6 : (t : ℕ) → fork-lts.Need-returns-6 (fork-said t) (fork-at t) fork.Post
 fork-returns-6 t c =
     let if6′ = c .before in
-    let meeting′ = if6′ .before in
-    let agree′ = meeting′ .before .before in
+    let second-fiq-refusal′ = if6′ .before in
+    let agree′ = second-fiq-refusal′ .before .before in
     let if5′ = agree′ .before .before .before in
     let branch2′ = branch2-of t (if5′ .before) in
     let exchange′ = exchange-of t branch2′ in
@@ -653,7 +655,7 @@ fork-returns-6 t c =
     (exchange′ .exchange .last .0) (back t exchange′) (branch2′ .branch2 .result) (branch2′ .branch2 .last .1 .1 .1 .1 .1 .1 .1 .1 .0)
     (branch2′ .branch2 .last .1 .1 .1 .1 .1 .1 .0) (came-1 t if5′) (look′ .look .result)
     (look′ .look .ensures ∙ ap (λ (i : ℕ). getD (g .from .regs) i 0) (coin-at′ .coin-at .ensures)) (agree′ .agree .result) (told t agree′) _ _ _ _
-    (met-is t meeting′) (if6′ .if6 .taken) (c .refuse4 .ensures)
+    (met-is t second-fiq-refusal′) (if6′ .if6 .taken) (c .refuse4 .ensures)
 
 fork-join-requires : (t : ℕ) → fork-lts.Need-join-requires (fork-said t) (fork-at t) fork.Post
 fork-join-requires t c κs =
@@ -723,16 +725,7 @@ fork-returns-7 t c =
     (join′ .join .ensures .1)
 
 pub +branch+fork-spec : {M : Type 1} → statement M
-+branch+fork-spec = close μ-branch μ-fork (λ t. branch-lts.spec (
-  walked-at-reads.Asked,
-  walked-at-reads.Learnt,
-  advance-reads.Asked,
-  advance-reads.Learnt,
-  refuse-reads.Asked,
-  refuse-reads.Learnt,
-  fork-below t,
-  fork.Post,
-)
++branch+fork-spec = close μ-branch μ-fork (λ t. branch-lts.spec (branch-said t)
     (branch-at t)
     branch.Post
     branch-Inv-loop
@@ -783,34 +776,7 @@ pub +branch+fork-spec : {M : Type 1} → statement M
     (λ c. let loop′ = loop-of t (c .before .before .before .before .before .before) in loop′ .loop .inv .1)
     (λ c. let loop′ = loop-of t (c .before .before .before .before .before .before) in loop′ .loop .inv .0 .long)
     (branch-returns-7 t))
-    λ t. fork-lts.spec (
-      refuse-reads.Asked,
-      refuse-reads.Learnt,
-      opening-reads.Asked,
-      opening-reads.Learnt,
-      coin-at-reads.Asked,
-      coin-at-reads.Learnt,
-      look-reads.Asked,
-      look-reads.Learnt,
-      copy-reads.Asked,
-      copy-reads.Learnt,
-      enter-reads.Asked,
-      enter-reads.Learnt,
-      branch-below t,
-      branch.Post,
-      closing-reads.Asked,
-      closing-reads.Learnt,
-      exchange-reads.Asked,
-      exchange-reads.Learnt,
-      agree-reads.Asked,
-      agree-reads.Learnt,
-      meeting-reads.Asked,
-      meeting-reads.Learnt,
-      leave-reads.Asked,
-      leave-reads.Learnt,
-      join-reads.Asked,
-      join-reads.Learnt,
-    )
+    λ t. fork-lts.spec (fork-said t)
     (fork-at t)
     fork.Post
     (λ c κs. search needs)

@@ -1,13 +1,13 @@
 use mathlib.Core.Path.{sym, _∙_}
 use borrow.Author.Tests.{lt-ltb, le-ltb, le-leb, lt-leb}
-use Rattle.maker.specs.Parts.{meetingOf}
+use Rattle.maker.specs.Parts.{secondFiqRefusalOf}
 use borrow.Author.Needs.{needs}
-use Rattle.maker.proofs.walk.meeting.Statement.{statement}
-use Rattle.maker.proofs.walk.meeting.Tie as tie
+use Rattle.maker.proofs.walk.second_fiq_refusal.Statement.{statement}
+use Rattle.maker.proofs.walk.second_fiq_refusal.Tie as tie
 
-pub meeting-spec : {M : Type 1} → statement M
-unfolding meetingOf
-meeting-spec =
+pub second-fiq-refusal-spec : {M : Type 1} → statement M
+unfolding secondFiqRefusalOf
+second-fiq-refusal-spec =
     tie.close
     (tie.spec
     (λ c. search needs)

@@ -1,13 +1,13 @@
 use mathlib.Core.Path.{sym, _∙_}
 use borrow.Author.Tests.{le-leb, lt-leb}
-use Rattle.maker.specs.Parts.{closingOf}
+use Rattle.maker.specs.Parts.{firstFiqRefusalOf}
 use borrow.Author.Needs.{needs}
-use Rattle.maker.proofs.walk.closing.Statement.{statement}
-use Rattle.maker.proofs.walk.closing.Tie as tie
+use Rattle.maker.proofs.walk.first_fiq_refusal.Statement.{statement}
+use Rattle.maker.proofs.walk.first_fiq_refusal.Tie as tie
 
-pub closing-spec : {M : Type 1} → statement M
-unfolding closingOf
-closing-spec =
+pub first-fiq-refusal-spec : {M : Type 1} → statement M
+unfolding firstFiqRefusalOf
+first-fiq-refusal-spec =
     tie.close
     (tie.spec
     (λ c. search needs)
