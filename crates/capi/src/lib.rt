@@ -1,10 +1,11 @@
 // The calls for other programs: C functions over the proved ones, nothing of their own.
 ghost use mathlib.Core.Path.{_≡_};
 ghost use Rattle.step.specs.declared.Direction.{Direction};
+ghost use Rattle.machine.specs.Machine.{machineOf};
 ghost use Rattle.machine.specs.Calls.{TurnPromise};
 ghost use Rattle.machine.specs.Batch.{BatchPromise};
 ghost use Rattle.machine.specs.Preview.{PreviewPromise};
-ghost use Rattle.wheel.specs.Wheel.{WheelPromise};
+ghost use Rattle.wheel.specs.Wheel.{wheelOf, WheelPromise};
 ghost use lib.ListN.{length};
 ghost use Rattle.word.specs.Word.{pick};
 ghost use Rattle.qins.specs.Decode.{isInstruction};
@@ -31,42 +32,42 @@ pub extern "C" fn qins_is_instruction(w: u32) -> u32
 
 #[no_mangle]
 pub extern "C" fn crank_forward(r: Record, mem: &mut [u32], table: &[u32]) -> Turned
-    ensures { λ a. ⌜ TurnPromise Direction.Forward r (now (mem .entry)) (now (table .entry)) a (now (mem .exit)) ⌝ }
+    ensures { λ a. ⌜ TurnPromise Direction.Forward (machineOf r (now (mem .entry)) (now (table .entry))) (a .refusal) (machineOf (a .state) (now (mem .exit)) (now (table .entry))) ⌝ }
 {
     r.forward(mem, table)
 }
 
 #[no_mangle]
 pub extern "C" fn crank_back(r: Record, mem: &mut [u32], table: &[u32]) -> Turned
-    ensures { λ a. ⌜ TurnPromise Direction.Back r (now (mem .entry)) (now (table .entry)) a (now (mem .exit)) ⌝ }
+    ensures { λ a. ⌜ TurnPromise Direction.Back (machineOf r (now (mem .entry)) (now (table .entry))) (a .refusal) (machineOf (a .state) (now (mem .exit)) (now (table .entry))) ⌝ }
 {
     r.back(mem, table)
 }
 
 #[no_mangle]
 pub extern "C" fn crank_preview_forward(r: Record, mem: &[u32], table: &[u32]) -> Preview
-    ensures { λ a. ⌜ PreviewPromise Direction.Forward r (now (mem .entry)) (now (table .entry)) a ⌝ }
+    ensures { λ a. ⌜ PreviewPromise Direction.Forward (machineOf r (now (mem .entry)) (now (table .entry))) a ⌝ }
 {
     r.preview_forward(mem, table)
 }
 
 #[no_mangle]
 pub extern "C" fn crank_preview_back(r: Record, mem: &[u32], table: &[u32]) -> Preview
-    ensures { λ a. ⌜ PreviewPromise Direction.Back r (now (mem .entry)) (now (table .entry)) a ⌝ }
+    ensures { λ a. ⌜ PreviewPromise Direction.Back (machineOf r (now (mem .entry)) (now (table .entry))) a ⌝ }
 {
     r.preview_back(mem, table)
 }
 
 #[no_mangle]
 pub extern "C" fn crank_forward_batch(r: Record, n: u32, mem: &mut [u32], table: &[u32]) -> Batch
-    ensures { λ a. ⌜ BatchPromise Direction.Forward n r (now (mem .entry)) (now (table .entry)) a (now (mem .exit)) ⌝ }
+    ensures { λ a. ⌜ BatchPromise Direction.Forward n (machineOf r (now (mem .entry)) (now (table .entry))) (a .turns) (a .refusal) (machineOf (a .state) (now (mem .exit)) (now (table .entry))) ⌝ }
 {
     r.forward_batch(n, mem, table)
 }
 
 #[no_mangle]
 pub extern "C" fn crank_back_batch(r: Record, n: u32, mem: &mut [u32], table: &[u32]) -> Batch
-    ensures { λ a. ⌜ BatchPromise Direction.Back n r (now (mem .entry)) (now (table .entry)) a (now (mem .exit)) ⌝ }
+    ensures { λ a. ⌜ BatchPromise Direction.Back n (machineOf r (now (mem .entry)) (now (table .entry))) (a .turns) (a .refusal) (machineOf (a .state) (now (mem .exit)) (now (table .entry))) ⌝ }
 {
     r.back_batch(n, mem, table)
 }
@@ -79,14 +80,14 @@ pub extern "C" fn crank_samples(
     mem: &mut [u32],
     table: &[u32],
 ) -> Wheeled
-    ensures { λ a. ⌜ WheelPromise given (now (samples .entry)) r (now (mem .entry)) (now (table .entry)) a (now (mem .exit)) ⌝ }
+    ensures { λ a. ⌜ WheelPromise given (now (samples .entry)) (machineOf r (now (mem .entry)) (now (table .entry))) (wheelOf a (now (mem .exit)) (now (table .entry))) ⌝ }
 {
     wheel::follow(r, given, samples, mem, table)
 }
 
 #[no_mangle]
 pub extern "C" fn crank_load(file: &[u8], mem: &mut [u32], table: &mut [u32]) -> Loaded
-    ensures { λ a. ⌜ LoadPromise (now (file .entry)) (now (mem .entry)) (now (table .entry)) a (now (mem .exit)) (now (table .exit)) ⌝ }
+    ensures { λ a. ⌜ LoadPromise (now (file .entry)) (now (mem .entry)) (now (table .entry)) (a .refusal) (machineOf (a .state) (now (mem .exit)) (now (table .exit))) ⌝ }
 {
     image::load(file, mem, table)
 }
@@ -101,21 +102,21 @@ pub extern "C" fn crank_preface_length(file: &[u8]) -> usize
 
 #[no_mangle]
 pub extern "C" fn crank_save(r: Record, mem: &[u32], table: &[u32], out: &mut [u8]) -> u32
-    ensures { λ a. ⌜ SavePromise r (now (mem .entry)) (now (table .entry)) (now (out .entry)) a (now (out .exit)) ⌝ }
+    ensures { λ a. ⌜ SavePromise (machineOf r (now (mem .entry)) (now (table .entry))) (now (out .entry)) a (now (out .exit)) ⌝ }
 {
     image::save(r, mem, table, out)
 }
 
 #[no_mangle]
 pub extern "C" fn crank_check(r: Record, mem: &[u32], table: &[u32]) -> Checked
-    ensures { λ a. ⌜ a ≡ checkOf r (now (mem .entry)) (now (table .entry)) ⌝ }
+    ensures { λ a. ⌜ a ≡ checkOf (machineOf r (now (mem .entry)) (now (table .entry))) ⌝ }
 {
     image::check(r, mem, table)
 }
 
 #[no_mangle]
 pub extern "C" fn crank_check_node(r: Record, node: u32, mem: &[u32], table: &[u32]) -> u32
-    ensures { λ a. ⌜ a ≡ checkNodeOf r node (now (mem .entry)) (now (table .entry)) ⌝ }
+    ensures { λ a. ⌜ a ≡ checkNodeOf (machineOf r (now (mem .entry)) (now (table .entry))) node ⌝ }
 {
     image::check_node(r, node, mem, table)
 }
@@ -128,7 +129,7 @@ pub extern "C" fn crank_make_table(
     table: &mut [u32],
     scratch: &mut [u32],
 ) -> Made
-    ensures { λ a. ⌜ MakePromise r limit (now (mem .entry)) (now (table .entry)) (now (scratch .entry)) a (now (mem .exit)) (now (table .exit)) (now (scratch .exit)) ⌝ }
+    ensures { λ a. ⌜ MakePromise (machineOf r (now (mem .entry)) (now (table .entry))) limit (now (scratch .entry)) (a .refusal) (a .cycles) (machineOf (a .state) (now (mem .exit)) (now (table .exit))) (now (scratch .exit)) ⌝ }
 {
     maker::make(r, limit, mem, table, scratch)
 }

@@ -5,7 +5,7 @@ use mathlib.Core.List.{List}
 use Prim.Native.Nat.{ℕ, _-_, _*_, _<_, _≤_}
 use native.Mathlib.Omega.{arith}
 use lib.Dec.{eqb, ltb, leb}
-use lib.ListN.{length, take}
+use lib.ListN.{length}
 use borrow.Author.Tests.{leb-true, ltb-true, ltb-false, not-false}
 use Rattle.word.specs.Word.{pick}
 use Rattle.word.proofs.Words.{and-true, pick-second}
@@ -13,7 +13,7 @@ use Rattle.step.specs.Table.{tableWords}
 use Rattle.step.specs.Sizes.{maxWords, maxNodes, inRange, isEnough, badSizes}
 use Rattle.step.proofs.Views.{view-long}
 use Rattle.machine.specs.declared.Record.{Record}
-use Rattle.machine.specs.Calls.{statusOf, wrongSizes}
+use Rattle.machine.specs.Machine.{statusOf, Machine, stateOf, wrongSizes}
 use Rattle.image.specs.Format.{wordAt, newest, backAt, backOf, trailerIn, stateIn, backIn}
 use Rattle.image.specs.Load.{badLength, hasLast, isCut, fileRefusal, loadRefusal, startIn}
 use Rattle.image.specs.Save.{SaveDecided}
@@ -54,41 +54,42 @@ load-accepted s mem table f z e =
     }
 
 -- sizes that are not wrong
-pub record Sized (r : Record) (mem table : List ℕ) : Type 0 where
-  pub range : inRange (statusOf r) ≡ true
-  pub some : 0 < r .k
-  pub code : r .k ≤ r .m
-  pub words : r .m ≤ maxWords
-  pub nodes : r .n ≤ maxNodes
-  pub memory : r .m ≤ length mem
-  pub links : tableWords (r .n) ≤ length table
+pub record Sized (x : Machine) : Type 0 where
+  pub range : inRange (statusOf (x .state)) ≡ true
+  pub some : 0 < x .state .k
+  pub code : x .state .k ≤ x .state .m
+  pub words : x .state .m ≤ maxWords
+  pub nodes : x .state .n ≤ maxNodes
+  pub memory : x .state .m ≤ length (x .memory)
+  pub links : tableWords (x .state .n) ≤ length (x .table)
 
-pub sized : (r : Record) (mem table : List ℕ) → wrongSizes r mem table ≡ false → Sized r mem table
+pub sized : (x : Machine) → wrongSizes x ≡ false → Sized x
 unfolding badSizes inRange
-sized r mem table h =
+sized x h =
+    let r = x .state in
     let s = and-true (inRange (statusOf r)) _ (not-false _ h) in
     let a = and-true (ltb 0 (r .k)) _ (s .0) in
     let b = and-true (leb (r .k) (r .m)) _ (a .1) in
     let d = and-true (leb (r .m) maxWords) (leb (r .n) maxNodes) (b .1) in
-    let e = and-true (leb (r .m) (length (take (r .m) mem))) (leb (tableWords (r .n)) (length (take (tableWords (r .n)) table))) (s .1) in
+    let e = and-true (leb (r .m) (length (stateOf x .words))) (leb (tableWords (r .n)) (length (stateOf x .links))) (s .1) in
     record {
       range = s .0;
       some = ltb-true _ _ (a .0);
       code = leb-true _ _ (b .0);
       words = leb-true _ _ (d .0);
       nodes = leb-true _ _ (d .1);
-      memory = leb-true _ _ (sym (view-long mem (r .m)) ∙ e .0);
-      links = leb-true _ _ (sym (view-long table (tableWords (r .n))) ∙ e .1);
+      memory = leb-true _ _ (sym (view-long (x .memory) (r .m)) ∙ e .0);
+      links = leb-true _ _ (sym (view-long (x .table) (tableWords (r .n))) ∙ e .1);
     }
 
 -- what save goes on with
-pub record Saving (r : Record) (mem table out : List ℕ) : Type 0 where
-  pub right : wrongSizes r mem table ≡ false
-  pub sizes : Sized r mem table
-  pub room : backOf newest r ≤ length out
+pub record Saving (x : Machine) (out : List ℕ) : Type 0 where
+  pub right : wrongSizes x ≡ false
+  pub sizes : Sized x
+  pub room : backOf newest (x .state) ≤ length out
 
-pub save-accepted : {r : Record} {mem table out : List ℕ} {n : ℕ} → SaveDecided r mem table out n → n ≡ 0 → Saving r mem table out
-save-accepted {r} {mem} {table} {out} d z =
-    let p = pick-second (wrongSizes r mem table) (λ e. omega (arith, e)) (sym (d .answer) ∙ z) in
-    let q = pick-second (ltb (length out) (backOf newest r)) (λ e. omega (arith, e)) (p .1) in
-    record { right = p .0; sizes = sized r mem table (p .0); room = ltb-false _ _ (q .0) }
+pub save-accepted : {x : Machine} {out : List ℕ} {n : ℕ} → SaveDecided x out n → n ≡ 0 → Saving x out
+save-accepted {x} {out} d z =
+    let p = pick-second (wrongSizes x) (λ e. omega (arith, e)) (sym (d .answer) ∙ z) in
+    let q = pick-second (ltb (length out) (backOf newest (x .state))) (λ e. omega (arith, e)) (p .1) in
+    record { right = p .0; sizes = sized x (p .0); room = ltb-false _ _ (q .0) }

@@ -9,7 +9,7 @@ use borrow.Rule.Slice.PartMut.{midOf}
 use borrow.Author.Tests.{lt-ltb, le-ltb, le-leb, lt-leb, ne-eqb}
 use Rattle.step.specs.Table.{tableWords}
 use Rattle.machine.specs.declared.Record.{Record}
-use Rattle.machine.specs.Calls.{zeros, wrongSizes}
+use Rattle.machine.specs.Machine.{zeros, Machine, machineOf, stateOf, wrongSizes}
 use Rattle.image.specs.declared.kinds.Kind.{Kind}
 use Rattle.image.specs.Format.{wordsOf, newest, backOf, image, kindOf, stateIn, backIn}
 use Rattle.image.specs.Load.{fileRefusal, loadRefusal, startIn, filled, LoadPromise, prefaceOf}
@@ -24,20 +24,18 @@ back-found s e f g = e ∙ rw (f, g)
 
 module _ (s mem table : List ℕ) where
   pub load-refuses : {n : ℕ} {z : Record} → n ≡ loadRefusal s mem table → (n ≡ 0 → ⊥) → z ≡ zeros
-      → LoadPromise s mem table (record { refusal = n; state = z }) mem table
-  load-refuses {n} e h k =
-      let f = ne-eqb n 0 h in
-      record { answer = rw (← e, f, k); memory = rw (← e, f); links = rw (← e, f) }
+      → LoadPromise s mem table n (machineOf z mem table)
+  load-refuses {n} e h k = record { refusal = e; machine = rw (← e, ne-eqb n 0 h, k) }
 
   -- r, a and w are the record, the first memory byte's place and the table's words as load found them
   pub load-accepts : {r : Record} {n a w : ℕ} {mem′ table′ : List ℕ} → n ≡ loadRefusal s mem table → n ≡ 0 → r ≡ stateIn s → a ≡ startIn s → w ≡ tableWords (r .n)
       → mem′ ≡ filled (r .m) (midOf a (length s - a) s) mem
       → table′ ≡ filled w (drop (4 * r .m) (midOf a (length s - a) s)) table
-      → LoadPromise s mem table (record { refusal = n; state = r }) mem′ table′
+      → LoadPromise s mem table n (machineOf r mem′ table′)
   load-accepts {a = a} l z e k w f g =
       let h = sym l ∙ z in
       let i = all-left a s in
-      record { answer = rw (h, z, e); memory = f ∙ (rw (h, i, k, e)); links = g ∙ (rw (h, i, w, k, e)) }
+      record { refusal = l; machine = rw (f, g, h, i, w, k, e) }
 
 -- the first n words filled from bytes that are those of another list
 pub refilled : (n : ℕ) (bytes bytes′ words part : List ℕ) → n ≤ length words → bytes ≡ bytes′
@@ -52,28 +50,28 @@ preface-accepts s f z e = rw (sym f ∙ z, e)
 
 -- ---- save
 
-module _ {r : Record} {mem table out : List ℕ} {n : ℕ} (d : SaveDecided r mem table out n) where
-  pub save-refuses : (n ≡ 0 → ⊥) → SavePromise r mem table out n out
+module _ {x : Machine} {out : List ℕ} {n : ℕ} (d : SaveDecided x out n) where
+  pub save-refuses : (n ≡ 0 → ⊥) → SavePromise x out n out
   save-refuses h = record { decided = d; output = rw (← d .answer, ne-eqb n 0 h) }
 
   -- w being the table's words as save found them
-  pub save-writes : {w : ℕ} {out′ : List ℕ} → n ≡ 0 → w ≡ tableWords (r .n)
-      → out′ ≡ image newest r (take (r .m) mem) (take w table) ++ drop (backOf newest r) out → SavePromise r mem table out n out′
+  pub save-writes : {w : ℕ} {out′ : List ℕ} → n ≡ 0 → w ≡ tableWords (x .state .n)
+      → out′ ≡ image newest (record { state = x .state; words = stateOf x .words; links = take w (x .table) }) ++ drop (backOf newest (x .state)) out → SavePromise x out n out′
   save-writes z w f = record { decided = d; output = f ∙ rw (sym (d .answer) ∙ z, w) }
 
 -- ---- check
 
-module _ (r : Record) (mem table : List ℕ) where
-  pub check-sizes : wrongSizes r mem table ≡ true → checkedAs 10 0 ≡ checkOf r mem table
+module _ (x : Machine) where
+  pub check-sizes : wrongSizes x ≡ true → checkedAs 10 0 ≡ checkOf x
   check-sizes w = rw w
 
-  module _ (w : wrongSizes r mem table ≡ false) (a : ℕ) (e : a ≡ badAddress r mem) where
-    pub check-code : a < r .k → checkedAs 7 a ≡ checkOf r mem table
-    check-code h = rw (w, ← e, lt-ltb a (r .k) h)
+  module _ (w : wrongSizes x ≡ false) (a : ℕ) (e : a ≡ badAddress x) where
+    pub check-code : a < x .state .k → checkedAs 7 a ≡ checkOf x
+    check-code h = rw (w, ← e, lt-ltb a (x .state .k) h)
 
-    module _ (h : r .k ≤ a) (v : ℕ) (f : v ≡ badNode r table) where
-      pub check-node : v ≤ r .n → checkedAs 8 v ≡ checkOf r mem table
-      check-node k = rw (w, ← e, le-ltb a (r .k) h, ← f, le-leb v (r .n) k)
+    module _ (h : x .state .k ≤ a) (v : ℕ) (f : v ≡ badNode x) where
+      pub check-node : v ≤ x .state .n → checkedAs 8 v ≡ checkOf x
+      check-node k = rw (w, ← e, le-ltb a (x .state .k) h, ← f, le-leb v (x .state .n) k)
 
-      pub check-good : r .n < v → checkedAs 0 0 ≡ checkOf r mem table
-      check-good k = rw (w, ← e, le-ltb a (r .k) h, ← f, lt-leb v (r .n) k)
+      pub check-good : x .state .n < v → checkedAs 0 0 ≡ checkOf x
+      check-good k = rw (w, ← e, le-ltb a (x .state .k) h, ← f, lt-leb v (x .state .n) k)

@@ -9,11 +9,9 @@ use lib.IntN.{pos}
 use lib.ListN.{length, take, drop}
 use borrow.Author.Tests.{lt-ltb, le-leb, lt-leb}
 use Rattle.word.specs.Word.{pick}
-use Rattle.machine.specs.declared.Record.{Record}
-use Rattle.machine.specs.Calls.{zeros}
-use Rattle.image.specs.declared.Loaded.{Loaded}
+use Rattle.machine.specs.Machine.{zeros, Machine, machineOf}
 use Rattle.image.specs.Format.{bytesOf, wordAt, qrm1, qrm2, kinds, same, kindBy, trailerLength, trailerBytes, recordIn, lastBytes, kindOf, stateIn}
-use Rattle.image.specs.Load.{badLength, fileRefusal, loadRefusal}
+use Rattle.image.specs.Load.{badLength, fileRefusal, loadRefusal, readIn}
 use Rattle.image.specs.Claims.{PositionBytes, RefusedBy, LoadOrder, OldPosition}
 use Rattle.image.proofs.Parts.{same-refl}
 use Rattle.image.proofs.RoundTrip.{takes-both}
@@ -26,7 +24,7 @@ position-bytes = refl
 
 -- a file's refusal that does not go by what follows it is the load's
 file-refused : (n : ℕ) (s : List ℕ) → ((rest : ℕ) → fileRefusal s rest ≡ n) → RefusedBy n s
-file-refused n s h a b x a′ b′ p = ap (λ (l : Loaded). l .refusal) (p .answer) ∙ h _
+file-refused n s h a b k x p = p .refusal ∙ h _
 
 under : (s : List ℕ) (rest : ℕ) → length s < 92 → fileRefusal s rest ≡ 1
 unfolding fileRefusal
@@ -83,10 +81,11 @@ position-lacking s e =
     rw (k, word-lacking (lastBytes 92 s) 22 (omega arith), word-lacking (lastBytes 92 s) 23 (omega arith))
 
 -- accepted or refused
-either-zero : (t : Bool) (r : Record) → r .position ≡ pos 0 → pick t r zeros .position ≡ pos 0
-either-zero true r e = e
-either-zero false r e = refl
+either-zero : (t : Bool) (x y : Machine) → x .state .position ≡ pos 0 → y .state .position ≡ pos 0 → pick t x y .state .position ≡ pos 0
+either-zero true x y e f = e
+either-zero false x y e f = f
 
 pub old-position : OldPosition
-old-position s a b x a′ b′ p e =
-    ap (λ (l : Loaded). l .state .position) (p .answer) ∙ either-zero (eqb (loadRefusal s a b) 0) (stateIn s) (position-lacking s e)
+old-position s a b n x p e =
+    ap (λ (y : Machine). y .state .position) (p .machine)
+    ∙ either-zero (eqb (loadRefusal s a b) 0) (readIn s a b) (machineOf zeros a b) (position-lacking s e) refl

@@ -10,7 +10,7 @@ use mir.Val.{Fits, SFits, ofZ}
 use Rattle.word.proofs.Bits.{low-fits, high-fits}
 use Rattle.step.specs.Table.{tableWords}
 use Rattle.step.specs.View.{Words}
-use Rattle.machine.specs.declared.Record.{Record}
+use Rattle.machine.specs.Machine.{Machine}
 use Rattle.machine.proofs.Given.{words-take, given-bounds}
 use Rattle.image.specs.Format.{positionWords, further}
 use Rattle.image.specs.Save.{SaveBounds}
@@ -31,11 +31,13 @@ position-words p f =
     let high = ofZ w64 p / 2 ^ 32 in
     words-cons (ofZ w64 p % 2 ^ 32) (high ∷ []) (low-fits p) (words-cons high [] (high-fits p f) words-nil)
 
-pub save-bounds : (r : Record) (mem table : List ℕ) → length (r .regs) ≡ 16 → ((a : ℕ) → Fits w32 (getD (r .regs) a 0)) → Fits w32 (r .qifv) → Fits w32 (r .qifw)
-    → ((a : ℕ) → Fits w32 (getD mem a 0)) → ((a : ℕ) → Fits w32 (getD table a 0)) → SFits w64 (r .position) → SaveBounds r mem table
-save-bounds r mem table n f v w g h p =
+pub save-bounds : (x : Machine) → (let r = x .state in
+    length (r .regs) ≡ 16 → ((a : ℕ) → Fits w32 (getD (r .regs) a 0)) → Fits w32 (r .qifv) → Fits w32 (r .qifw)
+    → ((a : ℕ) → Fits w32 (getD (x .memory) a 0)) → ((a : ℕ) → Fits w32 (getD (x .table) a 0)) → SFits w64 (r .position) → SaveBounds x)
+save-bounds x n f v w g h p =
+    let r = x .state in
     record {
-      turn = given-bounds r mem n f g p;
+      turn = given-bounds x n f g p;
       tail = words-cons (r .qifv) (r .qifw ∷ further r) (v .fits) (words-cons (r .qifw) (further r) (w .fits) (position-words (r .position) p));
-      links = words-take (tableWords (r .n)) table (λ a. h a .fits);
+      links = words-take (tableWords (r .n)) (x .table) (λ a. h a .fits);
     }

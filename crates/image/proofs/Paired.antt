@@ -12,8 +12,7 @@ use Rattle.word.specs.Word.{pick}
 use Rattle.word.proofs.Words.{pick-first, pick-second}
 use Rattle.step.specs.Table.{nodeWords, tableWords, fc, lc, cf, cl, nx, pr, link}
 use Rattle.step.proofs.Views.{link-node}
-use Rattle.machine.specs.declared.Record.{Record}
-use Rattle.machine.specs.Calls.{wrongSizes}
+use Rattle.machine.specs.Machine.{Machine, wrongSizes}
 use Rattle.image.specs.Check.{returns, childrenReturn, unpaired, badLinks, checkNodeOf}
 use Rattle.image.specs.CheckClaims.{wordOf, Paired, ChildrenPaired, AllPaired, OnLinks}
 use Rattle.image.proofs.Decides.{Decides, both, either, equal, node}
@@ -54,24 +53,27 @@ module _ (table : List ℕ) (n : ℕ) where
 
 -- ---- the call
 
-module _ (r : Record) (v : ℕ) (mem table : List ℕ) (w : wrongSizes r mem table ≡ false) (h : 0 < v) (k : v ≤ r .n) where
-  links-tell : (badLinks r table v ≡ false) ↔ AllPaired table (r .n) v
-  links-tell = all-paired table (r .n) v h k
+module _ (x : Machine) (v : ℕ) (w : wrongSizes x ≡ false) (h : 0 < v) (k : v ≤ x .state .n) where
+  abbrev Good : Type 0
+  Good = AllPaired (x .table) (x .state .n) v
 
-  decided : checkNodeOf r v mem table ≡ pick (badLinks r table v) 8 0
-  decided = links-decide r v mem table w h k
+  links-tell : (badLinks x v ≡ false) ↔ Good
+  links-tell = all-paired (x .table) (x .state .n) v h k
 
-  good-links : (checkNodeOf r v mem table ≡ 0) ↔ AllPaired table (r .n) v
+  decided : checkNodeOf x v ≡ pick (badLinks x v) 8 0
+  decided = links-decide x v w h k
+
+  good-links : (checkNodeOf x v ≡ 0) ↔ Good
   good-links =
-      (λ e. links-tell .0 (pick-second (badLinks r table v) (λ e. omega (arith, e)) (sym decided ∙ e) .0), λ p. decided ∙ rw (links-tell .1 p))
+      (λ e. links-tell .0 (pick-second (badLinks x v) (λ e. omega (arith, e)) (sym decided ∙ e) .0), λ p. decided ∙ rw (links-tell .1 p))
 
-  bad-links : (checkNodeOf r v mem table ≡ 8) ↔ (AllPaired table (r .n) v → ⊥)
+  bad-links : (checkNodeOf x v ≡ 8) ↔ (Good → ⊥)
   bad-links = (
-    λ e p. true≢false (sym (pick-first (badLinks r table v) (λ e. omega (arith, e)) (sym decided ∙ e) .0) ∙ links-tell .1 p),
-    λ f. go f (badLinks r table v) refl,
+    λ e p. true≢false (sym (pick-first (badLinks x v) (λ e. omega (arith, e)) (sym decided ∙ e) .0) ∙ links-tell .1 p),
+    λ f. go f (badLinks x v) refl,
   )
     where
-      go : (AllPaired table (r .n) v → ⊥) → (b : Bool) → badLinks r table v ≡ b → checkNodeOf r v mem table ≡ 8
+      go : (Good → ⊥) → (b : Bool) → badLinks x v ≡ b → checkNodeOf x v ≡ 8
       go f true e = decided ∙ rw e
       go f false e = absurd (f (links-tell .0 e))
 

@@ -14,12 +14,11 @@ use Rattle.step.specs.View.{Words}
 use Rattle.step.specs.Table.{tableWords}
 use Rattle.step.specs.Sizes.{isEnough, badSizes}
 use Rattle.machine.specs.declared.Record.{Record}
-use Rattle.machine.specs.Calls.{statusOf, positioned}
+use Rattle.machine.specs.Machine.{statusOf, positioned, Machine, State, stateOf}
 use Rattle.image.specs.declared.kinds.Kind.{Kind}
-use Rattle.image.specs.declared.Loaded.{Loaded}
-use Rattle.image.specs.Format.{bytesOf, wordAt, wordsOf, kinds, newest, oldest, same, kindBy, backAt, mAt, kAt, nAt, regsAt, qifvAt, qifwAt, positionAt, wordCount, trailerLength, backOf, further, tailWords, trailerWords, trailerBytes, recordIn, kept, imageBytes, lastBytes, kindOf, trailerIn, stateIn}
+use Rattle.image.specs.Format.{bytesOf, wordAt, wordsOf, kinds, newest, oldest, same, kindBy, backAt, mAt, kAt, nAt, regsAt, qifvAt, qifwAt, positionAt, wordCount, trailerLength, backOf, further, tailWords, trailerWords, trailerBytes, recordIn, kept, keptIn, image, lastBytes, kindOf, trailerIn, stateIn}
 use Rattle.image.specs.Load.{maxFile, fileRefusal, loadRefusal, imageIn, filled, LoadPromise, prefaceOf}
-use Rattle.image.specs.Claims.{Backs, Row, KindsFound, TakesBoth, Keeps, Restored, ReadsAs, Savable, ImageLength, ImageLoads, LoadedSaves, SaveAccepts, SavedLoads}
+use Rattle.image.specs.Claims.{Backs, Row, KindsFound, TakesBoth, Keeps, restored, ReadsAs, Savable, ImageLength, ImageLoads, LoadedSaves, SaveAccepts, SavedLoads}
 use Rattle.image.proofs.Bytes.{length-bytes, length-words, bytes-append, read-back, words-back}
 use Rattle.machine.proofs.Given.{words-take}
 use Rattle.image.proofs.Given.{words-cons, words-append}
@@ -43,15 +42,15 @@ filled-long n bytes words =
 
 -- ---- an image of any kind
 
-module _ (kind : Kind) (r : Record) (mem table : List ℕ) (row : Row kind) (v : Savable r mem table) where
-  abbrev sizes : Sized r mem table
-  sizes = sized r mem table (v .sizes)
+module _ (kind : Kind) (x : Machine) (row : Row kind) (v : Savable x) where
+  abbrev r : Record
+  r = x .state
 
-  abbrev words : List ℕ
-  words = take (r .m) mem
+  abbrev s : State
+  s = stateOf x
 
-  abbrev links : List ℕ
-  links = take (tableWords (r .n)) table
+  abbrev sizes : Sized x
+  sizes = sized x (v .sizes)
 
   abbrev tail : List ℕ
   tail = tailWords kind r
@@ -68,10 +67,10 @@ module _ (kind : Kind) (r : Record) (mem table : List ℕ) (row : Row kind) (v :
   unfolding trailerBytes
   trailer-long = length-append (bytesOf (trailerWords kind r)) (kind .last) ∙ rw (words-bytes-long, row .four)
 
-  pub image-length : length (imageBytes kind r mem table) ≡ backOf kind r
+  pub image-length : length (image kind s) ≡ backOf kind r
   image-length =
       let z = sizes in
-      simp (length-append, length-bytes, trailer-long, length-take-le (r .m) mem (z .memory), length-take-le (tableWords (r .n)) table (z .links)) (omega arith)
+      simp (length-append, length-bytes, trailer-long, length-take-le (r .m) (x .memory) (z .memory), length-take-le (tableWords (r .n)) (x .table) (z .links)) (omega arith)
 
   -- ---- behind a preface
 
@@ -112,13 +111,13 @@ module _ (kind : Kind) (r : Record) (mem table : List ℕ) (row : Row kind) (v :
     -- what load finds
 
     abbrev file : List ℕ
-    file = p ++ imageBytes kind r mem table
+    file = p ++ image kind s
 
     abbrev front : List ℕ
-    front = p ++ (bytesOf words ++ bytesOf links)
+    front = p ++ (bytesOf (s .words) ++ bytesOf (s .links))
 
     file-long : length file ≡ length p + backOf kind r
-    file-long = length-append p (imageBytes kind r mem table) ∙ (rw image-length)
+    file-long = length-append p (image kind s) ∙ (rw image-length)
 
     trailer-last : file ≡ front ++ trailerBytes kind r
     trailer-last = simp append-assoc
@@ -142,8 +141,8 @@ module _ (kind : Kind) (r : Record) (mem table : List ℕ) (row : Row kind) (v :
     state-found : stateIn file ≡ kept kind r
     state-found = ap recordIn trailer-found ∙ record-back
 
-    image-found : lastBytes (backOf kind r) file ≡ imageBytes kind r mem table
-    image-found = last-behind p (imageBytes kind r mem table) (backOf kind r) image-length
+    image-found : lastBytes (backOf kind r) file ≡ image kind s
+    image-found = last-behind p (image kind s) (backOf kind r) image-length
 
     file-passes : (rest : ℕ) → fileRefusal file rest ≡ rest
     unfolding fileRefusal
@@ -153,31 +152,27 @@ module _ (kind : Kind) (r : Record) (mem table : List ℕ) (row : Row kind) (v :
 
     preface-found : prefaceOf file ≡ p
     preface-found =
-        rw (file-passes 0, state-found, kind-found) (take-at p (imageBytes kind r mem table) (length file - backOf kind r) (omega (arith, file-long)))
+        rw (file-passes 0, state-found, kind-found) (take-at p (image kind s) (length file - backOf kind r) (omega (arith, file-long)))
 
-    module _ {a b a′ b′ : List ℕ} {x : Loaded} (l : LoadPromise file a b x a′ b′) (e : isEnough (statusOf r) (length a) (length b) ≡ true) where
+    module _ {a b : List ℕ} {n : ℕ} {y : Machine} (l : LoadPromise file a b n y) (e : isEnough (statusOf r) (length a) (length b) ≡ true) where
       load-passes : loadRefusal file a b ≡ 0
       load-passes = file-passes (pick (not (isEnough (statusOf (stateIn file)) (length a) (length b))) 6 0) ∙ rw (state-found, e)
 
-      memory-back : wordsOf (r .m) (imageBytes kind r mem table) ≡ words
-      memory-back = all-back words (bytesOf links ++ trailerBytes kind r) (length-take-le (r .m) mem (sizes .memory)) (v .bounds .turn .view .words)
+      memory-back : wordsOf (r .m) (image kind s) ≡ s .words
+      memory-back = all-back (s .words) (bytesOf (s .links) ++ trailerBytes kind r) (length-take-le (r .m) (x .memory) (sizes .memory)) (v .bounds .turn .view .words)
 
-      links-back : wordsOf (tableWords (r .n)) (drop (4 * r .m) (imageBytes kind r mem table)) ≡ links
+      links-back : wordsOf (tableWords (r .n)) (drop (4 * r .m) (image kind s)) ≡ s .links
       links-back =
-          let n = length-take-le (r .m) mem (sizes .memory) in
-          rw (drop-at (bytesOf words) (bytesOf links ++ trailerBytes kind r) (4 * r .m) (length-bytes words ∙ rw n))
-          (all-back links (trailerBytes kind r) (length-take-le (tableWords (r .n)) table (sizes .links)) (v .bounds .links))
+          let n = length-take-le (r .m) (x .memory) (sizes .memory) in
+          rw (drop-at (bytesOf (s .words)) (bytesOf (s .links) ++ trailerBytes kind r) (4 * r .m) (length-bytes (s .words) ∙ rw n))
+          (all-back (s .links) (trailerBytes kind r) (length-take-le (tableWords (r .n)) (x .table) (sizes .links)) (v .bounds .links))
 
-      restored : Restored (kept kind r) mem table a b x a′ b′
-      restored =
-          record {
-            answer = l .answer ∙ rw (load-passes, state-found);
-            memory = l .memory ∙ rw (load-passes, state-found, kind-found, image-found, memory-back);
-            links = l .links ∙ rw (load-passes, state-found, kind-found, image-found, links-back);
-          }
+      is-restored : (n ≡ 0) × (y ≡ restored (keptIn kind s) a b)
+      is-restored =
+          (l .refusal ∙ load-passes, l .machine ∙ rw (load-passes, state-found, kind-found, image-found, memory-back, links-back))
 
-    pub reads-back : ReadsAs file p (kept kind r) mem table
-    reads-back = record { preface = preface-found; load = λ a b x a′ b′ l e. restored l e }
+    pub reads-back : ReadsAs file p (keptIn kind s)
+    reads-back = record { preface = preface-found; load = λ a b n y l e. is-restored l e }
 
 -- ---- the claims
 
@@ -204,27 +199,29 @@ pub image-long : ImageLength
 image-long = image-length
 
 pub image-loads : ImageLoads
-image-loads kind r mem table p row v h = reads-back kind r mem table row v p h
+image-loads kind x p row v h = reads-back kind x row v p h
 
 pub save-accepts : SaveAccepts
-save-accepts r mem table out a out′ s w h = s .decided .answer ∙ rw (w, le-ltb (length out) (backOf newest r) h)
+save-accepts x out a out′ s w h = s .decided .answer ∙ rw (w, le-ltb (length out) (backOf newest (x .state)) h)
 
 pub saved-loads : SavedLoads
-saved-loads r mem table out out′ s =
+saved-loads x out out′ s =
     let a = save-accepted (s .decided) refl in
     let z = a .sizes in
-    let v : Savable r mem table = record { sizes = a .right; bounds = s .decided .bounds } in
+    let v : Savable x = record { sizes = a .right; bounds = s .decided .bounds } in
     let row = takes-both .second in
-    let b = backOf newest r in
-    let e : take b out′ ≡ imageBytes newest r mem table =
-    ap (take b) (s .output ∙ rw (sym (s .decided .answer))) ∙ take-at (imageBytes newest r mem table) (drop b out) b (image-length newest r mem table row v) in (
+    let b = backOf newest (x .state) in
+    let i = image newest (stateOf x) in
+    let e : take b out′ ≡ i = ap (take b) (s .output ∙ rw (sym (s .decided .answer))) ∙ take-at i (drop b out) b (image-length newest x row v) in (
       omega arith,
-      λ p h. rw e (subst (λ (u : Record). ReadsAs (p ++ imageBytes newest r mem table) p u mem table) (keeps .newest r (v .bounds .turn .position)) (reads-back newest r mem table row v p h)),
+      λ p h. rw e
+          (subst (λ (r : Record). ReadsAs (p ++ i) p (record { state = r; words = stateOf x .words; links = stateOf x .links })) (keeps .newest (x .state) (v .bounds .turn .position))
+          (reads-back newest x row v p h)),
     )
 
 pub loaded-saves : LoadedSaves
 unfolding badSizes
-loaded-saves s a b x a′ b′ p z =
-    let f : loadRefusal s a b ≡ 0 = ap (λ (l : Loaded). l .refusal) (sym (p .answer)) ∙ z in
+loaded-saves s a b n x p z =
+    let f : loadRefusal s a b ≡ 0 = sym (p .refusal) ∙ z in
     let g = file-accepted s (pick (not (isEnough (statusOf (stateIn s)) (length a) (length b))) 6 0) f in
-    rw (p .answer, p .memory, p .links, f, g .range, filled-long (stateIn s .m) (imageIn s) a, filled-long (tableWords (stateIn s .n)) (drop (4 * stateIn s .m) (imageIn s)) b)
+    rw (p .machine, f, g .range, filled-long (stateIn s .m) (imageIn s) a, filled-long (tableWords (stateIn s .n)) (drop (4 * stateIn s .m) (imageIn s)) b)

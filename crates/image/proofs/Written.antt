@@ -84,7 +84,7 @@ module _ (kind : Kind) (r : Record) (words links out : List ℕ) (hm : length wo
 
   pub image-written : (l part l′ part′ : List ℕ) → Front words out l → Front links (midOf at (length l - at) l) part
       → l′ ≡ putMid at (length l - at) l part → part′ ≡ trailerBytes kind r ++ drop (trailerLength kind) (midOf end (length l′ - end) l′)
-      → putMid end (length l′ - end) l′ part′ ≡ image kind r words links ++ drop (backOf kind r) out
+      → putMid end (length l′ - end) l′ part′ ≡ image kind (record { state = r; words = words; links = links }) ++ drop (backOf kind r) out
   image-written l part l′ part′ e f g h =
       let n : end ≡ 4 * length (words ++ links) = simp length-append (omega arith) in
       let m : end + trailerLength kind ≡ backOf kind r = omega arith in

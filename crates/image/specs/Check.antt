@@ -3,13 +3,11 @@ use Prim.Native.Nat.{ℕ, zero, suc}
 use mathlib.Core.Bool.{Bool, not, _&&_, _||_}
 use mathlib.Core.List.{List}
 use lib.Dec.{eqb, ltb, leb}
-use lib.ListN.{getD, take}
+use lib.ListN.{getD}
 use Rattle.word.specs.Word.{pick}
 use Rattle.qins.specs.Decode.{isInstruction}
-use Rattle.step.specs.View.{nodes}
 use Rattle.step.specs.Table.{fc, lc, cf, cl, nx, pr, isNode, link}
-use Rattle.machine.specs.declared.Record.{Record}
-use Rattle.machine.specs.Calls.{statusOf, wrongSizes}
+use Rattle.machine.specs.Machine.{Machine, stateOf, wrongSizes}
 use Rattle.image.specs.declared.Checked.{Checked}
 
 -- the first of the n numbers from i on where the test holds, i + n where there is none
@@ -45,30 +43,30 @@ unpaired t n v =
 abbrev pub noInstruction : List ℕ → ℕ → Bool
 noInstruction l a = not (isInstruction (getD l a 0))
 
-abbrev pub badAddress : Record → List ℕ → ℕ
-badAddress r mem = firstOf (noInstruction (take (r .m) mem)) 0 (r .k)
+abbrev pub badAddress : Machine → ℕ
+badAddress x = firstOf (noInstruction (stateOf x .words)) 0 (x .state .k)
 
 -- a node has an unpaired link, in the first 9 N lent words
-abbrev pub badLinks : Record → List ℕ → ℕ → Bool
-badLinks r table = unpaired (nodes (statusOf r) table) (r .n)
+abbrev pub badLinks : Machine → ℕ → Bool
+badLinks x = unpaired (stateOf x .links) (x .state .n)
 
-abbrev pub badNode : Record → List ℕ → ℕ
-badNode r table = firstOf (badLinks r table) 1 (r .n)
+abbrev pub badNode : Machine → ℕ
+badNode x = firstOf (badLinks x) 1 (x .state .n)
 
 abbrev pub checkedAs : ℕ → ℕ → Checked
 checkedAs n p = record { refusal = n; place = p }
 
-abbrev pub checkOf : Record → List ℕ → List ℕ → Checked
-checkOf r mem table =
-    pick (wrongSizes r mem table) (checkedAs 10 0)
-    (pick (ltb (badAddress r mem) (r .k)) (checkedAs 7 (badAddress r mem))
-    (pick (leb (badNode r table) (r .n)) (checkedAs 8 (badNode r table))
+abbrev pub checkOf : Machine → Checked
+checkOf x =
+    pick (wrongSizes x) (checkedAs 10 0)
+    (pick (ltb (badAddress x) (x .state .k)) (checkedAs 7 (badAddress x))
+    (pick (leb (badNode x) (x .state .n)) (checkedAs 8 (badNode x))
     (checkedAs 0 0)))
 
 -- one node (document 02, #105); of the memory only the length counts
-abbrev pub checkNodeOf : Record → ℕ → List ℕ → List ℕ → ℕ
-checkNodeOf r v mem table =
-    pick (wrongSizes r mem table) 10
-    (pick (not (isNode (r .n) v)) 17
-    (pick (badLinks r table v) 8
+abbrev pub checkNodeOf : Machine → ℕ → ℕ
+checkNodeOf x v =
+    pick (wrongSizes x) 10
+    (pick (not (isNode (x .state .n) v)) 17
+    (pick (badLinks x v) 8
     0))

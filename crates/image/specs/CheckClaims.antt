@@ -8,59 +8,52 @@ use lib.IntN.{pos}
 use lib.ListN.{length, getD, set, replicate}
 use Rattle.qins.specs.Decode.{isInstruction}
 use Rattle.step.specs.Table.{nodeWords, fc, lc, cf, cl, nx, pr}
-use Rattle.machine.specs.declared.Record.{Record}
-use Rattle.machine.specs.Calls.{zeros, wrongSizes}
+use Rattle.machine.specs.Machine.{zeros, Machine, machineOf, leftAs, wrongSizes}
 use Rattle.image.specs.Check.{checkedAs, checkOf, checkNodeOf}
 
 -- ---- before the nodes
 
 -- a is the lowest code address that holds no instruction
-pub record FirstBadWord (r : Record) (mem : List ℕ) (a : ℕ) : Type 0 where
-  pub code : a < r .k
-  pub bad : isInstruction (getD mem a 0) ≡ false
-  pub lower : (b : ℕ) → b < a → isInstruction (getD mem b 0) ≡ true
+pub record FirstBadWord (x : Machine) (a : ℕ) : Type 0 where
+  pub code : a < x .state .k
+  pub bad : isInstruction (getD (x .memory) a 0) ≡ false
+  pub lower : (b : ℕ) → b < a → isInstruction (getD (x .memory) b 0) ≡ true
 
 -- the sizes are in order, and every code word is an instruction
-pub record InOrder (r : Record) (mem table : List ℕ) : Type 0 where
-  pub sizes : wrongSizes r mem table ≡ false
-  pub code : (a : ℕ) → a < r .k → isInstruction (getD mem a 0) ≡ true
+pub record InOrder (x : Machine) : Type 0 where
+  pub sizes : wrongSizes x ≡ false
+  pub code : (a : ℕ) → a < x .state .k → isInstruction (getD (x .memory) a 0) ≡ true
 
 -- Claim: the whole check gives 10 exactly for wrong sizes, 7 and a exactly where they are right and a is the lowest bad code
 -- word; any other answer is given exactly where all is in order up to the nodes
 pub record BeforeNodes : Type 0 where
-  pub sizes : (r : Record) (mem table : List ℕ) → (checkOf r mem table ≡ checkedAs 10 0) ↔ (wrongSizes r mem table ≡ true)
-  pub words : (r : Record) (mem table : List ℕ) (a : ℕ)
-      → (checkOf r mem table ≡ checkedAs 7 a) ↔ (wrongSizes r mem table ≡ false) × FirstBadWord r mem a
-  pub passed : (r : Record) (mem table : List ℕ)
-      → (checkOf r mem table .refusal ≡ 10 → ⊥) × (checkOf r mem table .refusal ≡ 7 → ⊥) ↔ InOrder r mem table
+  pub sizes : (x : Machine) → (checkOf x ≡ checkedAs 10 0) ↔ (wrongSizes x ≡ true)
+  pub words : (x : Machine) (a : ℕ) → (checkOf x ≡ checkedAs 7 a) ↔ (wrongSizes x ≡ false) × FirstBadWord x a
+  pub passed : (x : Machine) → (checkOf x .refusal ≡ 10 → ⊥) × (checkOf x .refusal ≡ 7 → ⊥) ↔ InOrder x
 
 -- ---- node by node
 
 -- the call on p gives 8, and on every lower node 0
-pub record FirstBadNode (r : Record) (mem table : List ℕ) (p : ℕ) : Type 0 where
-  pub bad : checkNodeOf r p mem table ≡ 8
-  pub lower : (v : ℕ) → 0 < v → v < p → checkNodeOf r v mem table ≡ 0
+pub record FirstBadNode (x : Machine) (p : ℕ) : Type 0 where
+  pub bad : checkNodeOf x p ≡ 8
+  pub lower : (v : ℕ) → 0 < v → v < p → checkNodeOf x v ≡ 0
 
 -- Claim: with all in order up to the nodes, the whole check gives 8 and p exactly where the call on p gives 8 and on every lower
 -- node 0, and it gives 0 exactly where the call on every node does
 pub record NodeByNode : Type 0 where
-  pub bad : (r : Record) (mem table : List ℕ) (p : ℕ) → InOrder r mem table
-      → (checkOf r mem table ≡ checkedAs 8 p) ↔ FirstBadNode r mem table p
-  pub good : (r : Record) (mem table : List ℕ) → InOrder r mem table
-      → (checkOf r mem table ≡ checkedAs 0 0) ↔ ((v : ℕ) → 0 < v → v ≤ r .n → checkNodeOf r v mem table ≡ 0)
+  pub bad : (x : Machine) (p : ℕ) → InOrder x → (checkOf x ≡ checkedAs 8 p) ↔ FirstBadNode x p
+  pub good : (x : Machine) → InOrder x → (checkOf x ≡ checkedAs 0 0) ↔ ((v : ℕ) → 0 < v → v ≤ x .state .n → checkNodeOf x v ≡ 0)
 
 -- ---- one node
 
 -- Claim: the call gives 10 exactly for wrong sizes, and 17 exactly where they are right and the node is not 1 to N
 pub record BeforeLinks : Type 0 where
-  pub sizes : (r : Record) (v : ℕ) (mem table : List ℕ) → (checkNodeOf r v mem table ≡ 10) ↔ (wrongSizes r mem table ≡ true)
-  pub outside : (r : Record) (v : ℕ) (mem table : List ℕ)
-      → (checkNodeOf r v mem table ≡ 17) ↔ (wrongSizes r mem table ≡ false) × ((0 < v) × (v ≤ r .n) → ⊥)
+  pub sizes : (x : Machine) (v : ℕ) → (checkNodeOf x v ≡ 10) ↔ (wrongSizes x ≡ true)
+  pub outside : (x : Machine) (v : ℕ) → (checkNodeOf x v ≡ 17) ↔ (wrongSizes x ≡ false) × ((0 < v) × (v ≤ x .state .n) → ⊥)
 
 -- Claim: it is the same whatever the words of the memory are
 abbrev pub AnyWords : Type 0
-AnyWords =
-    (r : Record) (v : ℕ) (mem mem′ table : List ℕ) → length mem ≡ length mem′ → checkNodeOf r v mem table ≡ checkNodeOf r v mem′ table
+AnyWords = (x : Machine) (v : ℕ) (mem : List ℕ) → length (x .memory) ≡ length mem → checkNodeOf x v ≡ checkNodeOf (leftAs x (x .state) mem) v
 
 -- ---- the links of a node, as they stand in the lent table
 
@@ -90,16 +83,16 @@ AllPaired table n v =
 
 -- Claim: with sizes in order, the call on a node 1 to N gives 0 exactly where all its links are 0 or paired, and else 8
 pub record OnLinks : Type 0 where
-  pub good : (r : Record) (v : ℕ) (mem table : List ℕ) → wrongSizes r mem table ≡ false → 0 < v → v ≤ r .n
-      → (checkNodeOf r v mem table ≡ 0) ↔ AllPaired table (r .n) v
-  pub bad : (r : Record) (v : ℕ) (mem table : List ℕ) → wrongSizes r mem table ≡ false → 0 < v → v ≤ r .n
-      → (checkNodeOf r v mem table ≡ 8) ↔ (AllPaired table (r .n) v → ⊥)
+  pub good : (x : Machine) (v : ℕ) → wrongSizes x ≡ false → 0 < v → v ≤ x .state .n
+      → (checkNodeOf x v ≡ 0) ↔ AllPaired (x .table) (x .state .n) v
+  pub bad : (x : Machine) (v : ℕ) → wrongSizes x ≡ false → 0 < v → v ≤ x .state .n
+      → (checkNodeOf x v ≡ 8) ↔ (AllPaired (x .table) (x .state .n) v → ⊥)
 
 -- ---- the pairing rules, worked out: the answer on node 1 of two nodes, with a code word that is no instruction
 
 abbrev pub onFirst : List ℕ → ℕ
 onFirst table =
-    checkNodeOf (record { regs = zeros .regs; qifv = 0; qifw = 0; k = 1; m = 1; n = 2; position = pos 0 }) 1 (0 ∷ []) table
+    checkNodeOf (machineOf (record { regs = zeros .regs; qifv = 0; qifw = 0; k = 1; m = 1; n = 2; position = pos 0 }) (0 ∷ []) table) 1
 
 -- a node's words, by their index, and a node of which word j is v and every other 0
 abbrev pub indices : List ℕ

@@ -8,13 +8,11 @@ use lib.ListN.{length, getD, take, drop}
 use mir.Syntax.{w64}
 use mir.Val.{SFits}
 use Rattle.step.specs.Table.{tableWords}
-use Rattle.step.specs.View.{nodes}
 use Rattle.step.specs.Sizes.{isEnough}
 use Rattle.machine.specs.declared.Record.{Record}
-use Rattle.machine.specs.Calls.{statusOf, positioned, zeros, wrongSizes}
+use Rattle.machine.specs.Machine.{statusOf, positioned, zeros, Machine, machineOf, State, stateOf, wrongSizes}
 use Rattle.image.specs.declared.kinds.Kind.{Kind}
-use Rattle.image.specs.declared.Loaded.{Loaded}
-use Rattle.image.specs.Format.{qrm1, qrm2, kinds, newest, same, kindBy, backOf, trailerBytes, kept, imageBytes, lastBytes}
+use Rattle.image.specs.Format.{qrm1, qrm2, kinds, newest, same, kindBy, backOf, trailerBytes, kept, keptIn, image, lastBytes}
 use Rattle.image.specs.Load.{maxFile, LoadPromise, prefaceOf}
 use Rattle.image.specs.Save.{SaveBounds, SavePromise}
 
@@ -55,7 +53,7 @@ PositionBytes =
 
 -- every load of the file s is refused by n
 abbrev pub RefusedBy : ℕ → List ℕ → Type 0
-RefusedBy n s = (a b : List ℕ) (x : Loaded) (a′ b′ : List ℕ) → LoadPromise s a b x a′ b′ → x .refusal ≡ n
+RefusedBy n s = (a b : List ℕ) (k : ℕ) (x : Machine) → LoadPromise s a b k x → k ≡ n
 
 -- Claim: 1 comes first, for any end; then 2, for an end of neither kind; then 1 again, for the second kind under 100 bytes
 pub record LoadOrder : Type 0 where
@@ -67,59 +65,53 @@ pub record LoadOrder : Type 0 where
 
 -- Claim: of a file of the first kind, whatever else is in it, a load answers position 0, accepted or refused
 abbrev pub OldPosition : Type 0
-OldPosition =
-    (s a b : List ℕ) (x : Loaded) (a′ b′ : List ℕ) → LoadPromise s a b x a′ b′ → lastBytes 4 s ≡ qrm1 .last → x .state .position ≡ pos 0
+OldPosition = (s a b : List ℕ) (n : ℕ) (x : Machine) → LoadPromise s a b n x → lastBytes 4 s ≡ qrm1 .last → x .state .position ≡ pos 0
 
 -- Claim: what an accepted load leaves is of right sizes: with room, save accepts it
 abbrev pub LoadedSaves : Type 0
-LoadedSaves =
-    (s a b : List ℕ) (x : Loaded) (a′ b′ : List ℕ) → LoadPromise s a b x a′ b′ → x .refusal ≡ 0 → wrongSizes (x .state) a′ b′ ≡ false
+LoadedSaves = (s a b : List ℕ) (n : ℕ) (x : Machine) → LoadPromise s a b n x → n ≡ 0 → wrongSizes x ≡ false
 
 -- ---- what a file is read as
 
--- Of a load into a and b: the answer x is no refusal and r, and a′ and b′ hold the first M and 9 N words of mem and
--- table, and behind them what a and b had there.
-pub record Restored (r : Record) (mem table a b : List ℕ) (x : Loaded) (a′ b′ : List ℕ) : Type 0 where
-  pub answer : x ≡ record { refusal = 0; state = r }
-  pub memory : a′ ≡ take (r .m) mem ++ drop (r .m) a
-  pub links : b′ ≡ nodes (statusOf r) table ++ drop (tableWords (r .n)) b
+-- the state s in lent words a and b, and behind it what they had there
+abbrev pub restored : State → List ℕ → List ℕ → Machine
+restored s a b = machineOf (s .state) (s .words ++ drop (s .state .m) a) (s .links ++ drop (tableWords (s .state .n)) b)
 
--- The preface of the file s is p, and every load of it into lent words that are enough restores r, mem and table.
-pub record ReadsAs (s p : List ℕ) (r : Record) (mem table : List ℕ) : Type 0 where
-  pub preface : prefaceOf s ≡ p
-  pub load : (a b : List ℕ) (x : Loaded) (a′ b′ : List ℕ) → LoadPromise s a b x a′ b′ → isEnough (statusOf r) (length a) (length b) ≡ true
-      → Restored r mem table a b x a′ b′
+-- The preface of the file f is p, and every load of it into lent words that are enough restores s.
+pub record ReadsAs (f p : List ℕ) (s : State) : Type 0 where
+  pub preface : prefaceOf f ≡ p
+  pub load : (a b : List ℕ) (n : ℕ) (x : Machine) → LoadPromise f a b n x → isEnough (statusOf (s .state)) (length a) (length b) ≡ true
+      → (n ≡ 0) × (x ≡ restored s a b)
 
 -- ---- an image of any kind
 
--- a state that save does not refuse by 10
-pub record Savable (r : Record) (mem table : List ℕ) : Type 0 where
-  pub sizes : wrongSizes r mem table ≡ false
-  pub bounds : SaveBounds r mem table
+-- a machine that save does not refuse by 10
+pub record Savable (x : Machine) : Type 0 where
+  pub sizes : wrongSizes x ≡ false
+  pub bounds : SaveBounds x
 
 -- Claim: it is back bytes long
 abbrev pub ImageLength : Type 0
-ImageLength =
-    (kind : Kind) (r : Record) (mem table : List ℕ) → Row kind → Savable r mem table → length (imageBytes kind r mem table) ≡ backOf kind r
+ImageLength = (kind : Kind) (x : Machine) → Row kind → Savable x → length (image kind (stateOf x)) ≡ backOf kind (x .state)
 
 -- Claim: behind any preface p with which the file is not too long, it is read as p and its state, as far as its kind has it
 abbrev pub ImageLoads : Type 0
 ImageLoads =
-    (kind : Kind) (r : Record) (mem table p : List ℕ) → Row kind → Savable r mem table → length p + backOf kind r ≤ maxFile
-    → ReadsAs (p ++ imageBytes kind r mem table) p (kept kind r) mem table
+    (kind : Kind) (x : Machine) (p : List ℕ) → Row kind → Savable x → length p + backOf kind (x .state) ≤ maxFile
+    → ReadsAs (p ++ image kind (stateOf x)) p (keptIn kind (stateOf x))
 
 -- ---- what save wrote
 
 -- Claim: a save of right sizes with room for back bytes is accepted
 abbrev pub SaveAccepts : Type 0
 SaveAccepts =
-    (r : Record) (mem table out : List ℕ) (a : ℕ) (out′ : List ℕ) → SavePromise r mem table out a out′
-    → wrongSizes r mem table ≡ false → backOf newest r ≤ length out → a ≡ 0
+    (x : Machine) (out : List ℕ) (a : ℕ) (out′ : List ℕ) → SavePromise x out a out′ → wrongSizes x ≡ false → backOf newest (x .state) ≤ length out
+    → a ≡ 0
 
 -- Claim: what an accepted save wrote is not too long, and behind any preface p with which the file is not, it is read as p and
 -- the state that was saved
 abbrev pub SavedLoads : Type 0
 SavedLoads =
-    (r : Record) (mem table out out′ : List ℕ) → SavePromise r mem table out 0 out′
-    → (backOf newest r ≤ maxFile)
-    × ((p : List ℕ) → length p + backOf newest r ≤ maxFile → ReadsAs (p ++ take (backOf newest r) out′) p r mem table)
+    (x : Machine) (out out′ : List ℕ) → SavePromise x out 0 out′
+    → (let back = backOf newest (x .state) in
+    (back ≤ maxFile) × ((p : List ℕ) → length p + back ≤ maxFile → ReadsAs (p ++ take back out′) p (stateOf x)))

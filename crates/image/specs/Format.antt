@@ -11,7 +11,7 @@ use mir.Val.{ofZ, toZ}
 use Rattle.word.specs.Word.{pick}
 use Rattle.step.specs.Table.{tableWords}
 use Rattle.machine.specs.declared.Record.{Record}
-use Rattle.machine.specs.Calls.{positioned}
+use Rattle.machine.specs.Machine.{positioned, State}
 use Rattle.image.specs.declared.kinds.Kind.{Kind}
 
 -- ---- words as bytes
@@ -154,13 +154,13 @@ kept kind r =
 
 -- ---- the image
 
--- of M memory words and 9 N table words
-abbrev pub image : Kind → Record → List ℕ → List ℕ → List ℕ
-image kind r words links = bytesOf words ++ (bytesOf links ++ trailerBytes kind r)
+-- of a state: M memory words, 9 N table words and the trailer
+abbrev pub image : Kind → State → List ℕ
+image kind s = bytesOf (s .words) ++ (bytesOf (s .links) ++ trailerBytes kind (s .state))
 
--- of the lent memory and table, whose first words count
-abbrev pub imageBytes : Kind → Record → List ℕ → List ℕ → List ℕ
-imageBytes kind r mem table = image kind r (take (r .m) mem) (take (tableWords (r .n)) table)
+-- and the state that it has
+abbrev pub keptIn : Kind → State → State
+keptIn kind s = record { state = kept kind (s .state); words = s .words; links = s .links }
 
 -- ---- in a file s, with whatever before the image
 

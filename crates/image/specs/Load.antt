@@ -8,8 +8,7 @@ use lib.ListN.{length, take, drop}
 use Rattle.word.specs.Word.{pick}
 use Rattle.step.specs.Table.{tableWords}
 use Rattle.step.specs.Sizes.{inRange, isEnough}
-use Rattle.machine.specs.Calls.{statusOf, zeros}
-use Rattle.image.specs.declared.Loaded.{Loaded}
+use Rattle.machine.specs.Machine.{statusOf, zeros, Machine, machineOf}
 use Rattle.image.specs.Format.{wordAt, wordsOf, oldest, same, backAt, trailerLength, lastBytes, kindOf, trailerIn, stateIn, backIn}
 
 abbrev pub maxFile : ℕ
@@ -49,33 +48,23 @@ startIn s = length s - backIn s
 abbrev pub imageIn : List ℕ → List ℕ
 imageIn s = drop (startIn s) s
 
--- what load answers
-abbrev pub loadOf : List ℕ → List ℕ → List ℕ → Loaded
-loadOf s mem table =
-    record {
-      refusal = loadRefusal s mem table;
-      state = pick (eqb (loadRefusal s mem table) 0) (stateIn s) zeros;
-    }
-
--- the lent memory and table at exit: the first words from the image and the excess as it was, or untouched
+-- the first words from the image, and the excess as it was
 abbrev pub filled : ℕ → List ℕ → List ℕ → List ℕ
 filled n bytes words = wordsOf n bytes ++ drop n words
 
-abbrev pub memAfterLoad : List ℕ → List ℕ → List ℕ → List ℕ
-memAfterLoad s mem table =
-    pick (eqb (loadRefusal s mem table) 0) (filled (stateIn s .m) (imageIn s) mem) mem
+abbrev pub readIn : List ℕ → List ℕ → List ℕ → Machine
+readIn s mem table =
+    machineOf (stateIn s) (filled (stateIn s .m) (imageIn s) mem) (filled (tableWords (stateIn s .n)) (drop (4 * stateIn s .m) (imageIn s)) table)
 
-abbrev pub tableAfterLoad : List ℕ → List ℕ → List ℕ → List ℕ
-tableAfterLoad s mem table =
-    pick (eqb (loadRefusal s mem table) 0)
-    (filled (tableWords (stateIn s .n)) (drop (4 * stateIn s .m) (imageIn s)) table)
-    table
+-- the machine that load leaves: as it was read, or zeros on untouched words
+abbrev pub loadOf : List ℕ → List ℕ → List ℕ → Machine
+loadOf s mem table = pick (eqb (loadRefusal s mem table) 0) (readIn s mem table) (machineOf zeros mem table)
 
--- What a load of file into mem and table promises of its answer a and of the lent words at exit.
-pub record LoadPromise (file mem table : List ℕ) (a : Loaded) (mem′ table′ : List ℕ) : Type 0 where
-  pub answer : a ≡ loadOf file mem table
-  pub memory : mem′ ≡ memAfterLoad file mem table
-  pub links : table′ ≡ tableAfterLoad file mem table
+-- What a load of file into mem and table promises of its refusal n, and of the machine x that its record and the lent words at
+-- exit are.
+pub record LoadPromise (file mem table : List ℕ) (n : ℕ) (x : Machine) : Type 0 where
+  pub refusal : n ≡ loadRefusal file mem table
+  pub machine : x ≡ loadOf file mem table
 
 -- all before the first memory byte; empty where load would refuse 1 to 5
 abbrev pub prefaceOf : List ℕ → List ℕ

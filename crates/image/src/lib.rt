@@ -4,6 +4,7 @@ ghost use mathlib.Core.List.{_++_};
 ghost use Prim.Native.Nat.{_*_, _^_, _<_, _≤_};
 ghost use lib.ListN.{length, take, drop};
 ghost use Rattle.step.specs.Table.{tableWords};
+ghost use Rattle.machine.specs.Machine.{machineOf};
 ghost use Rattle.image.specs.Format.{newest, backOf, image};
 ghost use Rattle.image.specs.Load.{loadRefusal, filled, LoadPromise, prefaceOf};
 ghost use Rattle.image.specs.Save.{SaveDecided, SavePromise};
@@ -64,7 +65,7 @@ fn fill(image: &[u8], m: usize, n: usize, mem: &mut [u32], table: &mut [u32])
 }
 
 pub fn load(file: &[u8], mem: &mut [u32], table: &mut [u32]) -> Loaded
-    ensures { λ a. ⌜ LoadPromise (now (file .entry)) (now (mem .entry)) (now (table .entry)) a (now (mem .exit)) (now (table .exit)) ⌝ }
+    ensures { λ a. ⌜ LoadPromise (now (file .entry)) (now (mem .entry)) (now (table .entry)) (a .refusal) (machineOf (a .state) (now (mem .exit)) (now (table .exit))) ⌝ }
 {
     let refusal = load_refusal(file, mem, table);
     if refusal != 0 {
@@ -96,7 +97,7 @@ pub fn preface(file: &[u8]) -> &[u8]
 // the memory words, then the trailer.
 fn write_image(r: Record, mem: &[u32], table: &[u32], out: &mut [u8])
     requires { ⌜ (length (now mem) ≡ r .m) × (length (now table) ≡ tableWords (r .n)) × (backOf newest r ≤ length (now out)) × (backOf newest r < 2 ^ 32) ⌝ }
-    ensures { λ _. ⌜ now (out .exit) ≡ image newest r (now (mem .entry)) (now (table .entry)) ++ drop (backOf newest r) (now (out .entry)) ⌝ }
+    ensures { λ _. ⌜ now (out .exit) ≡ image newest (record { state = r; words = now (mem .entry); links = now (table .entry) }) ++ drop (backOf newest r) (now (out .entry)) ⌝ }
 {
     let at = 4 * mem.len();
     let end = at + 4 * table.len();
@@ -107,14 +108,14 @@ fn write_image(r: Record, mem: &[u32], table: &[u32], out: &mut [u8])
 
 // Save's refusal, 0 for none; and the bounds of save's arguments, here where the types give them.
 fn save_refusal(r: Record, mem: &[u32], table: &[u32], out: &[u8]) -> u32
-    ensures { λ a. ⌜ SaveDecided r (now (mem .entry)) (now (table .entry)) (now (out .entry)) a ⌝ }
+    ensures { λ a. ⌜ SaveDecided (machineOf r (now (mem .entry)) (now (table .entry))) (now (out .entry)) a ⌝ }
 {
     let short = out.len() < back_of(NEWEST, r);
     word::choose(r.has_bad_sizes(mem, table), 10, word::choose(short, 9, 0))
 }
 
 pub fn save(r: Record, mem: &[u32], table: &[u32], out: &mut [u8]) -> u32
-    ensures { λ a. ⌜ SavePromise r (now (mem .entry)) (now (table .entry)) (now (out .entry)) a (now (out .exit)) ⌝ }
+    ensures { λ a. ⌜ SavePromise (machineOf r (now (mem .entry)) (now (table .entry))) (now (out .entry)) a (now (out .exit)) ⌝ }
 {
     let answer = save_refusal(r, mem, table, out);
     if answer != 0 {
@@ -143,7 +144,7 @@ fn first_bad_address(mem: &[u32], m: u32, k: u32) -> u32
 }
 
 pub fn check(r: Record, mem: &[u32], table: &[u32]) -> Checked
-    ensures { λ c. ⌜ c ≡ checkOf r (now (mem .entry)) (now (table .entry)) ⌝ }
+    ensures { λ c. ⌜ c ≡ checkOf (machineOf r (now (mem .entry)) (now (table .entry))) ⌝ }
 {
     if r.has_bad_sizes(mem, table) {
         return Checked {
@@ -173,7 +174,7 @@ pub fn check(r: Record, mem: &[u32], table: &[u32]) -> Checked
 
 // The refusal of one node, 0 for none; the code words are not looked at.
 pub fn check_node(r: Record, node: u32, mem: &[u32], table: &[u32]) -> u32
-    ensures { λ a. ⌜ a ≡ checkNodeOf r node (now (mem .entry)) (now (table .entry)) ⌝ }
+    ensures { λ a. ⌜ a ≡ checkNodeOf (machineOf r (now (mem .entry)) (now (table .entry))) node ⌝ }
 {
     let bad = links::is_unpaired(table, r.n, node);
     let found = word::choose(!is_node(r.n, node), 17, word::choose(bad, 8, 0));

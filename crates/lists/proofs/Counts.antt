@@ -6,7 +6,8 @@ use lib.IntN.{ℤ, pos, negℤ, _+ℤ_, _-ℤ_, +ℤ-idr, +ℤ-assoc, +ℤ-comm,
 use Rattle.step.specs.declared.Direction.{Direction}
 use Rattle.step.specs.declared.Direction.the-variants.{Forward, Back}
 use Rattle.machine.specs.Position.{advanced}
-use Rattle.machine.specs.Calls.{Machine, Bounded, next}
+use Rattle.machine.specs.Machine.{Machine, Bounded}
+use Rattle.machine.specs.Calls.{next}
 use Rattle.machine.proofs.Claims.{next-position}
 use Rattle.lists.specs.Lists.{PositionCounts}
 use Rattle.lists.proofs.Reversible as R
@@ -36,5 +37,4 @@ module _ (S : Type 0) (Ok : Direction → S → Type 0) (next : Direction → S 
   counted {x = x} (turn {f = f} {b = b} {y = y} Back t g h) = moves Back y h ∙ (ap (advanced Back 1) (counted t) ∙ less (place x) f b)
 
 pub position-counts : PositionCounts
-position-counts table x y f b l =
-    counted Machine (Accepts table) (next table) Bounded (λ u. u .state .position) (next-position table) (tour table l)
+position-counts x y f b l = counted Machine Accepts next Bounded (λ u. u .state .position) next-position (tour l)

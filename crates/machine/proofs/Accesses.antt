@@ -22,24 +22,24 @@ use Rattle.step.specs.declared.Effect.{Effect}
 use Rattle.step.specs.declared.Effect.the-variants.{Write, SwapWord}
 use Rattle.step.specs.declared.Attempt.{Attempt}
 use Rattle.step.specs.declared.Attempt.the-variants.{Does}
-use Rattle.step.specs.View.{View, reg, nodes, byWay}
+use Rattle.step.specs.View.{View, reg, byWay}
 use Rattle.step.specs.Sizes.{badSizes}
-use Rattle.step.specs.Step.{storeOf, storeIn, performed, number, refuse, isReady, whenReady, isAllowed, whenAllowed, attempt}
+use Rattle.step.specs.Step.{performed, number, refuse, isReady, whenReady, isAllowed, whenAllowed, attempt}
 use Rattle.step.specs.Claims.{Accesses, Within}
 use Rattle.step.specs.Claims.Accesses.{copies, exchanges}
 use Rattle.step.proofs.Addresses.{allowed-within}
 use Rattle.step.proofs.Undo.{passed}
-use Rattle.machine.specs.Turn.{pc, to, newPc, isCode, starts, finishes, present, judged, executed, landed}
-use Rattle.machine.specs.Position.{end, isLast, advanced}
-use Rattle.machine.specs.Calls.{machineOf, Bounded, statusOf, viewOf, updated, planOf, turnOf, memoryOf, found, moved}
-use Rattle.machine.specs.Accesses.{left, given, accessed, AtAccess, Accessed, ByAccess, AccessMade}
+use Rattle.machine.specs.Turn.{pc, newPc, isCode, starts, finishes, present, judged, executed, landed}
+use Rattle.machine.specs.Position.{end, isLast}
+use Rattle.machine.specs.Machine.{statusOf, Machine, stateOf, viewOf, Bounded}
+use Rattle.machine.specs.Calls.{planOf, refusal, next, found}
+use Rattle.machine.specs.Accesses.{given, accessed, AtAccess, ByAccess, afterAccess, AccessMade}
 use Rattle.machine.specs.Accesses.Gives.{turn, preview}
 use Rattle.machine.specs.declared.Record.{Record}
-use Rattle.machine.specs.declared.Turned.{Turned}
 use Rattle.machine.specs.declared.Preview.{Preview}
 use Rattle.machine.proofs.Room.{last-end}
 use Rattle.machine.proofs.Inverse.{and-false}
-use Rattle.machine.proofs.Effects.{effected}
+use Rattle.machine.proofs.Effects.{afterEffect, effected}
 use Rattle.machine.proofs.Whole.{end-last}
 
 -- ---- a refusal, by what its test means
@@ -146,94 +146,89 @@ module _ (s : View) where
   same-ready Access.Copy a i = refl
   same-ready Access.Exchange a i = refl
 
-module _ (d : Direction) (r : Record) (mem table : List ℕ) (g : Bounded (machineOf r mem)) (x : Access) (a i : ℕ)
-    (e : Accesses (found d r mem) (present (found d r mem)) x a i) where
+module _ (d : Direction) (x : Machine) (g : Bounded x) (k : Access) (a i : ℕ) (e : Accesses (found d x) (present (found d x)) k a i) where
+  abbrev r : Record
+  r = x .state
+
   abbrev t : List ℕ
-  t = nodes (statusOf r) table
+  t = stateOf x .links
 
   abbrev s : View
-  s = found d r mem
+  s = found d x
 
   abbrev does : Effect
-  does = effectOf x s a i
+  does = effectOf k s a i
 
   is-access : kind (present s) ≡ 3
-  is-access = access-kind s (present s) x a i e
+  is-access = access-kind s (present s) k a i e
 
   no-finish : finishes (s .memory) (pc s) ≡ false
-  no-finish = one-word .finish (getD (s .memory) (pc s) 0) ∙ ap (λ (k : ℕ). eqb k 2) is-access
+  no-finish = one-word .finish (getD (s .memory) (pc s) 0) ∙ ap (λ (n : ℕ). eqb n 2) is-access
 
   no-start : starts (statusOf r) (s .memory) (pc s) ≡ false
   no-start =
-      ap (λ (b : Bool). isCode (statusOf r) (pc s) && b) (one-word .start (getD (s .memory) (pc s) 0) ∙ ap (λ (k : ℕ). eqb k 1) is-access)
+      ap (λ (b : Bool). isCode (statusOf r) (pc s) && b) (one-word .start (getD (s .memory) (pc s) 0) ∙ ap (λ (n : ℕ). eqb n 1) is-access)
       ∙ and-false (isCode (statusOf r) (pc s))
 
   abbrev land : Bool
-  land = starts (s .at) (s .memory) (newPc d (accessed x a i s))
+  land = starts (s .at) (s .memory) (newPc d (accessed k a i s))
 
   ahead : isReady (statusOf r) ≡ true → d ≡ Forward → isReady (performed does s .at) && starts (s .at) (s .memory) (newPc Forward (performed does s)) ≡ land
   ahead z q =
-      ap (λ (b : Bool). b && starts (s .at) (s .memory) (newPc Forward (performed does s))) (same-ready s x a i ∙ z)
+      ap (λ (b : Bool). b && starts (s .at) (s .memory) (newPc Forward (performed does s))) (same-ready s k a i ∙ z)
       ∙ (ap (λ (z : Direction). starts (s .at) (s .memory) (newPc z (performed does s))) (sym q)
-      ∙ ap (starts (s .at) (s .memory)) (same-pc s d x a i))
+      ∙ ap (starts (s .at) (s .memory)) (same-pc s d k a i))
 
   behind : d ≡ Back → land ≡ false
   behind q =
-      ap (λ (z : Direction). starts (s .at) (s .memory) (newPc z (accessed x a i s))) q
-      ∙ (ap (starts (s .at) (s .memory)) (getD-set-other (s .regs) a 0 _ 0 (omega (arith, access-named s (present s) x a i e (decode-formed _))))
+      ap (λ (z : Direction). starts (s .at) (s .memory) (newPc z (accessed k a i s))) q
+      ∙ (ap (starts (s .at) (s .memory)) (getD-set-other (s .regs) a 0 _ 0 (omega (arith, access-named s (present s) k a i e (decode-formed _))))
       ∙ no-start)
 
-  own-is : landed d s (executed t d s) ≡ refuse (not (isReady (statusOf r))) 14 (refuse (not (isAllowed x (statusOf r) i)) 15 (landed d s (Does does)))
+  own-is : landed d s (executed t d s) ≡ refuse (not (isReady (statusOf r))) 14 (refuse (not (isAllowed k (statusOf r) i)) 15 (landed d s (Does does)))
   own-is =
-      ap (landed d s) (attempt-is s t d (present s) x a i e)
+      ap (landed d s) (attempt-is s t d (present s) k a i e)
       ∙ (landed-refuse d s _ 14 _ ∙ ap (refuse (not (isReady (statusOf r))) 14) (landed-refuse d s _ 15 _))
 
   abbrev Own18 : ℕ → Type 0
   Own18 = given (land ≡ true) 18 (λ n. n ≡ 0)
 
   abbrev Own15 : ℕ → Type 0
-  Own15 = given (Within x (statusOf r) i → ⊥) 15 Own18
+  Own15 = given (Within k (statusOf r) i → ⊥) 15 Own18
 
   abbrev Own : ℕ → Type 0
   Own = given (r .qifw ≢ 0) 14 Own15
 
-  within : (isAllowed x (statusOf r) i ≡ true) ↔ Within x (statusOf r) i
-  within = allowed-within x (statusOf r) i
+  within : (isAllowed k (statusOf r) i ≡ true) ↔ Within k (statusOf r) i
+  within = allowed-within k (statusOf r) i
 
   own : Own (number (landed d s (executed t d s)))
   own =
       subst (λ (y : Attempt). Own (number y)) (sym own-is)
       (rule _ (r .qifw ≢ 0) (λ z. eqb-false _ 0 (not-true _ z)) (λ z p. p (eqb-true _ 0 (not-not _ z))) 14 _ Own15 (λ z.
-      rule _ (Within x (statusOf r) i → ⊥) (λ y w. true≢false (sym (within .1 w) ∙ not-true _ y)) (λ y p. p (within .0 (not-not _ y))) 15 _ Own18 (λ _.
+      rule _ (Within k (statusOf r) i → ⊥) (λ y w. true≢false (sym (within .1 w) ∙ not-true _ y)) (λ y p. p (within .0 (not-not _ y))) 15 _ Own18 (λ _.
       landed-rule d s does land (ahead (not-not _ z)) behind)))
 
-  at-access : AtAccess d r mem table x a i (number (planOf d r mem table))
+  at-access : AtAccess d x k a i (number (planOf d x))
   at-access =
-      judged-rule t (pc (viewOf r mem)) s (r .position ≡ end d) Own d (isLast d (r .position)) (landed d s (executed t d s))
+      judged-rule t (pc (viewOf x)) s (r .position ≡ end d) Own d (isLast d (r .position)) (landed d s (executed t d s))
       (last-end d (r .position) (g .position)) (λ z p. true≢false (sym (ap (isLast d) p ∙ end-last d) ∙ z)) no-finish own
 
   -- an accepted one
   own-does : (f : Effect) → executed t d s ≡ Does f → Does does ≡ Does f
-  own-does f q = passed _ 15 _ (passed _ 14 _ (sym (attempt-is s t d (present s) x a i e) ∙ q) .1) .1
+  own-does f q = passed _ 15 _ (passed _ 14 _ (sym (attempt-is s t d (present s) k a i e) ∙ q) .1) .1
 
-  state-is : (x : Access) → updated r (advanced d 1 (r .position)) (performed (effectOf x s a i) s .at) (to d (performed (effectOf x s a i) s) .regs) ≡ moved d r (accessed x a i s)
-  state-is Access.Copy = refl
-  state-is Access.Exchange = refl
+  left-is : (k : Access) → afterEffect d x (effectOf k s a i) ≡ afterAccess d x k a i
+  left-is Access.Copy = refl
+  left-is Access.Exchange = refl
 
-  stored-is : (x : Access) → storeIn (storeOf (effectOf x s a i) (s .regs)) mem ≡ left x mem i (reg s a)
-  stored-is Access.Copy = refl
-  stored-is Access.Exchange = refl
-
-  did : number (planOf d r mem table) ≡ 0 → Accessed d r mem x a i (turnOf d r mem table) (memoryOf d r mem table)
-  did h = let q = effected d r mem table g h does own-does in record { state = q .state ∙ state-is x; memory = q .memory ∙ stored-is x }
+  did : refusal d x ≡ 0 → next d x ≡ afterAccess d x k a i
+  did h = effected d x g h does own-does ∙ left-is k
 
 pub by-access : ByAccess
-by-access d r mem table n (turn t mem′ p) x a i e =
-    subst (AtAccess d r mem table x a i) (sym (ap (λ (u : Turned). u .refusal) (p .answer))) (at-access d r mem table (p .bounds) x a i e)
-by-access d r mem table n (preview q p) x a i e =
-    subst (AtAccess d r mem table x a i) (sym (ap (λ (u : Preview). u .refusal) (p .answer))) (at-access d r mem table (p .bounds) x a i e)
+by-access d x n (turn m y p) k a i e = subst (AtAccess d x k a i) (sym (p .refusal)) (at-access d x (p .bounds) k a i e)
+by-access d x n (preview q p) k a i e =
+    subst (AtAccess d x k a i) (sym (ap (λ (u : Preview). u .refusal) (p .answer))) (at-access d x (p .bounds) k a i e)
 
 pub access-made : AccessMade
-access-made d r mem table t mem′ p h x a i e =
-    let q = did d r mem table (p .bounds) x a i e (sym (ap (λ (u : Turned). u .refusal) (p .answer)) ∙ h) in
-    record { state = ap (λ (u : Turned). u .state) (p .answer) ∙ q .state; memory = p .memory ∙ q .memory }
+access-made d x y n p h k a i e = p .left ∙ did d x (p .bounds) k a i e (sym (p .refusal) ∙ h)

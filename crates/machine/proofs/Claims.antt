@@ -4,7 +4,7 @@ use mathlib.Core.Logic.{_≢_}
 use mathlib.Core.List.{List, _++_}
 use Prim.Native.Nat.{ℕ}
 use lib.IntN.{ℤ}
-use lib.ListN.{length, take, drop, take-append-drop}
+use lib.ListN.{length, take-append-drop}
 use mir.Syntax.{w64}
 use mir.Val.{SFits}
 use Rattle.step.specs.declared.Status.{Status}
@@ -12,19 +12,19 @@ use Rattle.step.specs.declared.Direction.{Direction}
 use Rattle.step.specs.declared.Direction.the-variants.{Forward, Back}
 use Rattle.step.specs.declared.Attempt.{Attempt}
 use Rattle.step.specs.declared.Attempt.the-variants.{Refused, Does}
-use Rattle.step.specs.View.{View, Bounds, nodes, flip}
+use Rattle.step.specs.View.{View, Bounds, flip}
 use Rattle.step.proofs.Views.{seam-take, seam-drop, seam-long}
 use Rattle.step.proofs.Sized.{SameSizes, marked-sizes}
 use Rattle.step.specs.Step.{number}
 use Rattle.machine.specs.Turn.{planned, turned}
 use Rattle.machine.specs.Position.{isLast, advanced, positionAfter}
-use Rattle.machine.specs.Calls.{Machine, Bounded, machineOf, statusOf, updated, viewOf, planOf, viewAfter, TurnPromise, refusal, next, Leads}
+use Rattle.machine.specs.Machine.{statusOf, updated, Machine, leftAs, State, stateOf, excessOf, viewIn, viewOf, Bounded}
+use Rattle.machine.specs.Calls.{planOf, viewAfter, TurnPromise, refusal, next, Leads}
 use Rattle.machine.specs.Claims.{Harmless, Inverse, Origin, OneOrigin, OnCalls}
 use Rattle.machine.specs.declared.Record.{Record}
 use Rattle.machine.proofs.Moves.{turned-long}
 use Rattle.machine.proofs.Room.{Step, step, home}
 use Rattle.machine.proofs.Inverse.{Reversed, going, turn-back}
-use Rattle.machine.specs.declared.Turned.{Turned}
 use Rattle.machine.proofs.Sure.{Made, made, unmade, uncounted}
 
 -- ---- the sizes stay
@@ -41,82 +41,96 @@ pub turned-sizes : (d : Direction) (x : Attempt) (s : View) → SameSizes (s .at
 turned-sizes d (Refused n) s = record { k = refl; m = refl; n = refl }
 turned-sizes d (Does e) s = marked-sizes e (s .at)
 
+-- ---- a turn of a state alone
+
+abbrev pub planIn : Direction → State → Attempt
+planIn d s = planned (s .links) d (isLast d (s .state .position)) (viewIn s)
+
+abbrev pub nextIn : Direction → State → State
+nextIn d s =
+    let v = turned d (planIn d s) (viewIn s) in
+    record { state = updated (s .state) (positionAfter d (planIn d s) (s .state .position)) (v .at) (v .regs); words = v .memory; links = s .links }
+
 -- ---- the lent memory: what a turn leaves in front, and the excess
 
-module _ (table : List ℕ) (d : Direction) (x : Machine) where
+module _ (d : Direction) (x : Machine) where
   abbrev s : View
-  s = viewOf (x .state) (x .memory)
+  s = viewOf x
+
+  abbrev t : List ℕ
+  t = stateOf x .links
 
   abbrev p : ℤ
   p = x .state .position
 
   abbrev plan : Attempt
-  plan = planOf d (x .state) (x .memory) table
+  plan = planOf d x
 
   abbrev s′ : View
-  s′ = viewAfter d (x .state) (x .memory) table
+  s′ = viewAfter d x
 
   pub next-sizes : SameSizes (s .at) (s′ .at)
   next-sizes = turned-sizes d plan s
 
-  long : length (s′ .memory) ≡ length (take (x .state .m) (x .memory))
+  long : length (s′ .memory) ≡ length (stateOf x .words)
   long = turned-long d plan s
 
-  pub next-long : length (next table d x .memory) ≡ length (x .memory)
+  pub next-long : length (next d x .memory) ≡ length (x .memory)
   next-long = seam-long (x .memory) (s′ .memory) (x .state .m) long
 
-  pub next-excess : drop (x .state .m) (next table d x .memory) ≡ drop (x .state .m) (x .memory)
-  next-excess = seam-drop (x .memory) (s′ .memory) (x .state .m) long
-
-  pub next-view : take (x .state .m) (next table d x .memory) ≡ s′ .memory
-  next-view = seam-take (x .memory) (s′ .memory) (x .state .m) long
+  pub next-excess : excessOf (next d x) ≡ excessOf x
+  next-excess = λ j. record { words = seam-drop (x .memory) (s′ .memory) (x .state .m) long j; links = excessOf x .links }
 
   -- the state that the next call sees
-  pub next-seen : viewOf (next table d x .state) (next table d x .memory) ≡ s′
+  next-words : stateOf (next d x) .words ≡ s′ .memory
+  next-words = seam-take (x .memory) (s′ .memory) (x .state .m) long
+
+  pub next-state : stateOf (next d x) ≡ nextIn d (stateOf x)
+  next-state = λ j. record { state = next d x .state; words = next-words j; links = t }
+
+  pub next-seen : viewOf (next d x) ≡ s′
   next-seen =
       let a = same-status (x .state) (positionAfter d plan p) (s′ .at) (s′ .regs) next-sizes in
-      λ j. record { at = a j; regs = s′ .regs; memory = next-view j }
+      λ j. record { at = a j; regs = s′ .regs; memory = next-words j }
 
-  pub refused-keeps : refusal table d x ≢ 0 → next table d x ≡ x
+  pub refused-keeps : refusal d x ≢ 0 → next d x ≡ x
   refused-keeps h =
       let e : s′ ≡ s = unmade d plan s h in
-      rw (uncounted d plan p h, e) (ap (λ (l : List ℕ). record { state = x .state; memory = l }) (take-append-drop (x .state .m) (x .memory)))
+      rw (uncounted d plan p h, e) (ap (leftAs x (x .state)) (take-append-drop (x .state .m) (x .memory)))
 
-  module _ (h : refusal table d x ≡ 0) where
+  module _ (h : refusal d x ≡ 0) where
     effect : Made plan
-    effect = made (nodes (s .at) table) d (isLast d p) s h
+    effect = made t d (isLast d p) s h
 
-    pub next-position : next table d x .state .position ≡ advanced d 1 p
+    pub next-position : next d x .state .position ≡ advanced d 1 p
     next-position = ap (λ (a : Attempt). positionAfter d a p) (effect .is)
 
-  module _ (g : Bounded x) (h : refusal table d x ≡ 0) where
+  module _ (g : Bounded x) (h : refusal d x ≡ 0) where
     is-next : turned d (Does (effect h .effect)) s ≡ s′
     is-next = ap (λ (a : Attempt). turned d a s) (sym (effect h .is))
 
     further : Step d p (advanced d 1 p)
-    further = step d p (g .position) (going (nodes (s .at) table) d (isLast d p) s (effect h .is))
+    further = step d p (g .position) (going t d (isLast d p) s (effect h .is))
 
-    reversed : Reversed (nodes (s .at) table) d s s′
-    reversed = subst (Reversed (nodes (s .at) table) d s) is-next (turn-back (nodes (s .at) table) d (isLast d p) s (g .view) (effect h .is))
+    reversed : Reversed t d s s′
+    reversed = subst (Reversed t d s) is-next (turn-back t d (isLast d p) s (g .view) (effect h .is))
 
-    plan-back : planOf (flip d) (next table d x .state) (next table d x .memory) table ≡ Does (reversed .by)
-    plan-back =
-        ap₂ (planned (nodes (s .at) table) (flip d)) (ap (isLast (flip d)) (next-position h) ∙ further .back) next-seen
-        ∙ reversed .plan
+    plan-back : planOf (flip d) (next d x) ≡ Does (reversed .by)
+    plan-back = ap₂ (planned t (flip d)) (ap (isLast (flip d)) (next-position h) ∙ further .back) next-seen ∙ reversed .plan
 
-    view-back : viewAfter (flip d) (next table d x .state) (next table d x .memory) table ≡ s
+    view-back : viewAfter (flip d) (next d x) ≡ s
     view-back = ap₂ (turned (flip d)) plan-back next-seen ∙ reversed .home
 
-    position-back : next table (flip d) (next table d x) .state .position ≡ p
+    position-back : next (flip d) (next d x) .state .position ≡ p
     position-back = ap₂ (positionAfter (flip d)) plan-back (next-position h) ∙ home d p
 
-    pub turn-home : (refusal table (flip d) (next table d x) ≡ 0) × (next table (flip d) (next table d x) ≡ x) × Bounded (next table d x)
+    memory-back : next (flip d) (next d x) .memory ≡ x .memory
+    memory-back = (λ j. view-back j .memory ++ next-excess j .words) ∙ take-append-drop (x .state .m) (x .memory)
+
+    pub turn-home : (refusal (flip d) (next d x) ≡ 0) × (next (flip d) (next d x) ≡ x) × Bounded (next d x)
     turn-home = (
       ap number plan-back,
-      λ j. record {
-        state = updated (x .state) (position-back j) (view-back j .at) (view-back j .regs);
-        memory = (ap₂ (λ (l r : List ℕ). l ++ r) (ap (λ (u : View). u .memory) view-back) next-excess ∙ take-append-drop (x .state .m) (x .memory)) j;
-      },
+      λ j. leftAs x (updated (x .state) (position-back j) (view-back j .at) (view-back j .regs)) (memory-back j),
       record { view = subst Bounds (sym next-seen) (reversed .bounds); position = subst⁻¹ (SFits w64) (next-position h) (further .fits) },
     )
 
@@ -125,66 +139,45 @@ module _ (table : List ℕ) (d : Direction) (x : Machine) where
 pub harmless : Harmless
 harmless = record { refused = refused-keeps; excess = next-excess }
 
-leads-back : (table : List ℕ) (d : Direction) (x y : Machine) → Bounded x → Leads table d x y → Leads table (flip d) y x
-leads-back table d x y g h =
-    let p = turn-home table d x g (h .0) in
-    subst (λ (z : Machine). Leads table (flip d) z x) (h .1) (p .0, p .1)
+leads-back : (d : Direction) (x y : Machine) → Bounded x → Leads d x y → Leads (flip d) y x
+leads-back d x y g h =
+    let p = turn-home d x g (h .0) in
+    subst (λ (z : Machine). Leads (flip d) z x) (h .1) (p .0, p .1)
 
 pub inverse : Inverse
-inverse = record { forward-back = λ table x y. leads-back table Forward x y; back-forward = λ table x y. leads-back table Back x y }
+inverse = record { forward-back = leads-back Forward; back-forward = leads-back Back }
 
 pub one-origin : OneOrigin
 one-origin =
     record {
-      only = λ table d y e e′. sym (yields table d y e .1) ∙ yields table d y e′ .1;
+      only = λ d y e e′. sym (yields d y e .1) ∙ yields d y e′ .1;
       yields = yields;
       exists = exists;
     }
   where
-    yields : (table : List ℕ) (d : Direction) (y : Machine) (e : Origin table d y) → Leads table (flip d) y (e .machine)
-    yields table d y e = leads-back table d (e .machine) y (e .bounds) (e .leads)
+    yields : (d : Direction) (y : Machine) (e : Origin d y) → Leads (flip d) y (e .machine)
+    yields d y e = leads-back d (e .machine) y (e .bounds) (e .leads)
 
-    exists : (table : List ℕ) (d : Direction) (y : Machine) → Bounded y → refusal table (flip d) y ≡ 0 → Origin table d y
-    exists table Forward y g h = let p = turn-home table Back y g h in record { machine = next table Back y; bounds = p .2; leads = (p .0, p .1) }
-    exists table Back y g h = let p = turn-home table Forward y g h in record { machine = next table Forward y; bounds = p .2; leads = (p .0, p .1) }
+    exists : (d : Direction) (y : Machine) → Bounded y → refusal (flip d) y ≡ 0 → Origin d y
+    exists Forward y g h = let p = turn-home Back y g h in record { machine = next Back y; bounds = p .2; leads = (p .0, p .1) }
+    exists Back y g h = let p = turn-home Forward y g h in record { machine = next Forward y; bounds = p .2; leads = (p .0, p .1) }
 
 -- ---- and of calls, by their promises
 
-module _ {d : Direction} {r : Record} {mem table : List ℕ} {a : Turned} {mem′ : List ℕ} (p : TurnPromise d r mem table a mem′) where
-  abbrev from-call : Machine
-  from-call = machineOf r mem
+module _ {d : Direction} {x y : Machine} {n : ℕ} (p : TurnPromise d x n y) where
+  call-undone : {z : Machine} {k : ℕ} → n ≡ 0 → TurnPromise (flip d) y k z → (k ≡ 0) × (z ≡ x)
+  call-undone e q = let h = leads-back d x y (p .bounds) (sym (p .refusal) ∙ e, sym (p .left)) in (q .refusal ∙ h .0, q .left ∙ h .1)
 
-  left : next table d from-call ≡ machineOf (a .state) mem′
-  left = sym (λ j. machineOf (p .answer j .state) (p .memory j))
-
-  answered : refusal table d from-call ≡ a .refusal
-  answered = sym (ap (λ (t : Turned). t .refusal) (p .answer))
-
-  call-undone : (b : Turned) (mem″ : List ℕ) → a .refusal ≡ 0 → TurnPromise (flip d) (a .state) mem′ table b mem″
-      → (b ≡ record { refusal = 0; state = r }) × (mem″ ≡ mem)
-  call-undone b mem″ z q =
-      let h = leads-back table d from-call (machineOf (a .state) mem′) (p .bounds) (answered ∙ z, left) in (
-        q .answer ∙ (λ j. record { refusal = h .0 j; state = h .1 j .state }),
-        q .memory ∙ ap (λ (x : Machine). x .memory) (h .1),
-      )
-
-  call-accepted : (e : Origin table (flip d) from-call) → Leads table d from-call (e .machine) → (a .refusal ≡ 0) × (machineOf (a .state) mem′ ≡ e .machine)
-  call-accepted e l = (sym answered ∙ l .0, sym left ∙ l .1)
+  call-accepted : (e : Origin (flip d) x) → Leads d x (e .machine) → (n ≡ 0) × (y ≡ e .machine)
+  call-accepted e l = (p .refusal ∙ l .0, p .left ∙ l .1)
 
 pub on-calls : OnCalls
-on-calls =
-    record {
-      undone = λ d r mem table a b mem′ mem″ p z q. call-undone p b mem″ z q;
-      origin = origin;
-      accepted = accepted;
-    }
+on-calls = record { undone = λ d x y z n k p e q. call-undone p e q; origin = origin; accepted = accepted }
   where
-    origin : (d : Direction) (r : Record) (mem table : List ℕ) (a : Turned) (mem′ : List ℕ) → TurnPromise d r mem table a mem′ → a .refusal ≡ 0
-        → Origin table (flip d) (machineOf r mem)
-    origin Forward r mem table a mem′ p z = one-origin .exists table Back (machineOf r mem) (p .bounds) (answered p ∙ z)
-    origin Back r mem table a mem′ p z = one-origin .exists table Forward (machineOf r mem) (p .bounds) (answered p ∙ z)
+    origin : (d : Direction) (x y : Machine) (n : ℕ) → TurnPromise d x n y → n ≡ 0 → Origin (flip d) x
+    origin Forward x y n p e = one-origin .exists Back x (p .bounds) (sym (p .refusal) ∙ e)
+    origin Back x y n p e = one-origin .exists Forward x (p .bounds) (sym (p .refusal) ∙ e)
 
-    accepted : (d : Direction) (r : Record) (mem table : List ℕ) (a : Turned) (mem′ : List ℕ) → TurnPromise d r mem table a mem′
-        → (e : Origin table (flip d) (machineOf r mem)) → (a .refusal ≡ 0) × (machineOf (a .state) mem′ ≡ e .machine)
-    accepted Forward r mem table a mem′ p e = call-accepted p e (one-origin .yields table Back (machineOf r mem) e)
-    accepted Back r mem table a mem′ p e = call-accepted p e (one-origin .yields table Forward (machineOf r mem) e)
+    accepted : (d : Direction) (x y : Machine) (n : ℕ) → TurnPromise d x n y → (e : Origin (flip d) x) → (n ≡ 0) × (y ≡ e .machine)
+    accepted Forward x y n p e = call-accepted p e (one-origin .yields Back x e)
+    accepted Back x y n p e = call-accepted p e (one-origin .yields Forward x e)

@@ -7,8 +7,7 @@ use lib.Dec.{lit<}
 use mir.Syntax.{w32, w64}
 use mir.Val.{Fits, SFits}
 use Rattle.step.specs.View.{Words}
-use Rattle.machine.specs.Calls.{Bounded, machineOf}
-use Rattle.machine.specs.declared.Record.{Record}
+use Rattle.machine.specs.Machine.{Machine, Bounded}
 
 pub words-take : (m : ℕ) (l : List ℕ) → Words l → Words (take m l)
 words-take zero l h a = lit< tt
@@ -16,7 +15,7 @@ words-take (suc m) [] h a = lit< tt
 words-take (suc m) (x ∷ l) h zero = h 0
 words-take (suc m) (x ∷ l) h (suc a) = words-take m l (λ b. h (suc b)) a
 
-pub given-bounds : (r : Record) (mem : List ℕ) → length (r .regs) ≡ 16 → ((a : ℕ) → Fits w32 (getD (r .regs) a 0)) → ((a : ℕ) → Fits w32 (getD mem a 0))
-    → SFits w64 (r .position) → Bounded (machineOf r mem)
-given-bounds r mem n f g p =
-    record { view = record { sixteen = n; regs = λ a. f a .fits; words = words-take (r .m) mem (λ a. g a .fits) }; position = p }
+pub given-bounds : (x : Machine) → length (x .state .regs) ≡ 16 → ((a : ℕ) → Fits w32 (getD (x .state .regs) a 0)) → ((a : ℕ) → Fits w32 (getD (x .memory) a 0))
+    → SFits w64 (x .state .position) → Bounded x
+given-bounds x n f g p =
+    record { view = record { sixteen = n; regs = λ a. f a .fits; words = words-take (x .state .m) (x .memory) (λ a. g a .fits) }; position = p }

@@ -14,9 +14,9 @@ use Rattle.step.specs.View.{View}
 use Rattle.step.specs.Step.{number, refuse}
 use Rattle.step.proofs.Numbers.{attempt-13}
 use Rattle.step.specs.Sizes.{inRange, badSizes}
-use Rattle.machine.specs.Turn.{from, landed, judged, executed}
-use Rattle.machine.specs.Calls.{viewOf, turnOf, zeros}
-use Rattle.machine.specs.declared.Record.{Record}
+use Rattle.machine.specs.Turn.{landed, judged, executed}
+use Rattle.machine.specs.Machine.{zeros, Machine, machineOf}
+use Rattle.machine.specs.Calls.{turnOf, found}
 
 -- a refusal by another number, which may only stand where the answer is no
 past : (b : Bool) (n : ℕ) (x : Attempt) (y : Bool) → eqb n 13 ≡ false → (b ≡ true → false ≡ y) → eqb (number x) 13 ≡ y
@@ -35,11 +35,11 @@ unfolding decode operation line
 finish-is-one w h = ap (λ (v : ℕ). eqb (kind (decode v)) 0) (sym (eqb-true w finishWord h))
 
 -- code and memory are the one word
-abbrev oneWord : Record
-oneWord = record { regs = zeros .regs; qifv = 0; qifw = 0; k = 1; m = 1; n = 0; position = pos 0 }
+abbrev oneWord : ℕ → Machine
+oneWord w = machineOf (record { regs = zeros .regs; qifv = 0; qifw = 0; k = 1; m = 1; n = 0; position = pos 0 }) (w ∷ []) []
 
-pub told-by-13 : (w : ℕ) → eqb (turnOf Forward oneWord (w ∷ []) [] .refusal) 13 ≡ eqb (kind (decode w)) 0
+pub told-by-13 : (w : ℕ) → eqb (turnOf Forward (oneWord w) .refusal) 13 ≡ eqb (kind (decode w)) 0
 unfolding judged badSizes inRange refuse
 told-by-13 w =
-    let s = from Forward (viewOf oneWord (w ∷ [])) in
+    let s = found Forward (oneWord w) in
     past (eqb w finishWord) 12 _ _ refl (finish-is-one w) (past-landed s (executed [] Forward s) ∙ attempt-13 [] Forward (decode w) s)

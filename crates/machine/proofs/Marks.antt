@@ -29,12 +29,12 @@ equal-is (x ∷ l) (y ∷ m) h = let p = and-true (eqb x y) (equal l m) h in ap�
 
 abbrev test : List Mark → Bool
 test [] = true
-test (m ∷ rest) = equal (observed (m .way) (m .table) (after (m .table) (m .way) (m .before) (m .machine))) (m .shows) && test rest
+test (m ∷ rest) = equal (observed (m .way) (after (m .way) (m .before) (m .machine))) (m .shows) && test rest
 
 hold : (l : List Mark) → test l ≡ true → Hold l
 hold [] h = tt
 hold (m ∷ rest) h =
-    let p = and-true (equal (observed (m .way) (m .table) (after (m .table) (m .way) (m .before) (m .machine))) (m .shows)) (test rest) h in
+    let p = and-true (equal (observed (m .way) (after (m .way) (m .before) (m .machine))) (m .shows)) (test rest) h in
     (equal-is _ _ (p .0), hold rest (p .1))
 
 tested : test marks ≡ true

@@ -9,37 +9,33 @@ use Rattle.step.specs.declared.Direction.{Direction}
 use Rattle.step.specs.declared.Effect.{Effect}
 use Rattle.step.specs.declared.Effect.the-variants.{Write}
 use Rattle.step.specs.declared.Attempt.the-variants.{Does}
-use Rattle.step.specs.View.{View, reg, nodes}
-use Rattle.step.specs.Step.{number, attempt}
+use Rattle.step.specs.View.{View, reg}
+use Rattle.step.specs.Step.{attempt}
 use Rattle.step.specs.Claims.{Result}
 use Rattle.step.proofs.Results.{results}
 use Rattle.step.proofs.Undo.{passed}
 use Rattle.machine.specs.Turn.{present, executed}
-use Rattle.machine.specs.Calls.{machineOf, Bounded, statusOf, viewOf, planOf, turnOf, memoryOf, found}
-use Rattle.machine.specs.Results.{Xored, ResultMade}
-use Rattle.machine.specs.declared.Record.{Record}
-use Rattle.machine.specs.declared.Turned.{Turned}
+use Rattle.machine.specs.Machine.{Machine, stateOf, viewOf, Bounded}
+use Rattle.machine.specs.Calls.{refusal, next, found}
+use Rattle.machine.specs.Results.{afterXor, ResultMade}
 use Rattle.machine.proofs.Inverse.{bounds-from}
 use Rattle.machine.proofs.Effects.{effected}
 
-module _ (d : Direction) (r : Record) (mem table : List ℕ) (g : Bounded (machineOf r mem)) (a : ℕ) (v : Source) (x : ℕ)
-    (o : present (found d r mem) ≡ Xor a v) (e : Result (found d r mem) v x) where
+module _ (d : Direction) (x : Machine) (g : Bounded x) (a : ℕ) (v : Source) (w : ℕ) (o : present (found d x) ≡ Xor a v) (e : Result (found d x) v w) where
   abbrev t : List ℕ
-  t = nodes (statusOf r) table
+  t = stateOf x .links
 
   abbrev s : View
-  s = found d r mem
+  s = found d x
 
   abbrev does : Effect
-  does = Write a (bitXor (reg s a) x)
+  does = Write a (bitXor (reg s a) w)
 
   own-does : (f : Effect) → executed t d s ≡ Does f → Does does ≡ Does f
-  own-does f q = passed _ 14 _ (sym (results t d s (bounds-from (viewOf r mem) (g .view) d .regs) a v x e) ∙ (sym (ap (λ (y : Op). attempt t d y s) o) ∙ q)) .1
+  own-does f q = passed _ 14 _ (sym (results t d s (bounds-from (viewOf x) (g .view) d .regs) a v w e) ∙ (sym (ap (λ (y : Op). attempt t d y s) o) ∙ q)) .1
 
-  did : number (planOf d r mem table) ≡ 0 → Xored d r mem a x (turnOf d r mem table) (memoryOf d r mem table)
-  did h = let q = effected d r mem table g h does own-does in record { state = q .state; memory = q .memory }
+  did : refusal d x ≡ 0 → next d x ≡ afterXor d x a w
+  did h = effected d x g h does own-does
 
 pub result-made : ResultMade
-result-made d r mem table t mem′ p h a v x o e =
-    let q = did d r mem table (p .bounds) a v x o e (sym (ap (λ (u : Turned). u .refusal) (p .answer)) ∙ h) in
-    record { state = ap (λ (u : Turned). u .state) (p .answer) ∙ q .state; memory = p .memory ∙ q .memory }
+result-made d x y n p h a v w o e = p .left ∙ did d x (p .bounds) a v w o e (sym (p .refusal) ∙ h)

@@ -21,13 +21,13 @@ use Rattle.step.specs.declared.Store.{Store}
 use Rattle.step.specs.View.{seen}
 use Rattle.step.proofs.Sized.{SameSizes}
 use Rattle.step.specs.Step.{noStore}
-use Rattle.machine.specs.Calls.{Machine, machineOf, Bounded, statusOf, recordAt, updated, TurnPromise, accepted, refusal, next, wrongSizes}
+use Rattle.machine.specs.Machine.{statusOf, recordAt, updated, Machine, leftAs, wrongSizes, Bounded}
+use Rattle.machine.specs.Calls.{TurnPromise, accepted, refusal, next}
 use Rattle.machine.specs.Turn.{planAt}
 use Rattle.machine.specs.Position.{advanced}
-use Rattle.machine.specs.InPlace.{Steps, room, lastRefusal, batchBy, First, Runs}
-use Rattle.machine.specs.Batch.{after, turnsMade, batchOf, BatchPromise}
+use Rattle.machine.specs.InPlace.{Steps, room, lastRefusal, recordBy, First, Runs}
+use Rattle.machine.specs.Batch.{after, turnsMade, BatchPromise}
 use Rattle.machine.specs.declared.Record.{Record}
-use Rattle.machine.specs.declared.Batch.{Batch}
 use Rattle.machine.specs.declared.Ran.{Ran}
 use Rattle.machine.proofs.InPlace.{steps-long}
 use Rattle.machine.proofs.Claims.{refused-keeps, turned-sizes}
@@ -36,13 +36,13 @@ use Rattle.machine.proofs.Whole.{refusal-is, state-is, store-is, none-a
 use Rattle.machine.proofs.Loops.{Loop, limited, loop-starts, done, full, again, stop}
 
 -- the invariant: the loop's, and one that is not live has made no turn
-pub record Running (live : Bool) (table : List ℕ) (d : Direction) (n most : ℕ) (r : Record) (mem₀ : List ℕ) (at : Status) (regs mem : List ℕ) (i : ℕ) : Type 0 where
-  pub loop : Loop table d n most r mem₀ at regs mem i
-  pub first : live ≡ false → (i ≡ 0) × (at ≡ statusOf r) × (regs ≡ r .regs)
+pub record Running (live : Bool) (d : Direction) (n most : ℕ) (x : Machine) (at : Status) (regs mem : List ℕ) (i : ℕ) : Type 0 where
+  pub loop : Loop d n most x at regs mem i
+  pub first : live ≡ false → (i ≡ 0) × (at ≡ statusOf (x .state)) × (regs ≡ x .state .regs)
 
-pub running-starts : {live : Bool} {table : List ℕ} {d : Direction} {n most : ℕ} {r : Record} {mem : List ℕ} {at : Status} → at ≡ statusOf r
-    → SFits w64 (r .position) → most ≡ pick (ltb (room d (asRead (r .position))) n) (room d (asRead (r .position))) n → Bounded (machineOf r mem)
-    → Running live table d n most r mem at (r .regs) mem 0
+pub running-starts : {live : Bool} {d : Direction} {n most : ℕ} {x : Machine} {at : Status} → at ≡ statusOf (x .state)
+    → SFits w64 (x .state .position) → most ≡ pick (ltb (room d (asRead (x .state .position))) n) (room d (asRead (x .state .position))) n → Bounded x
+    → Running live d n most x at (x .state .regs) (x .memory) 0
 running-starts {d = d} {n = n} {most = most} e f l g =
     let m = subst (λ (p : ℤ). most ≡ pick (ltb (room d p) n) (room d p) n) (toZ-ofZ f) l in
     record { loop = loop-starts e (limited m) g; first = λ l. (refl, e, refl) }
@@ -55,80 +55,87 @@ made-at r p at regs z =
     let n = sym (z .n) in
     λ j. record { regs = regs; qifv = at .qifv; qifw = at .qifw; k = k j; m = m j; n = n j; position = p }
 
-module _ (live : Bool) (mem shown : List ℕ) {table : List ℕ} {d : Direction} {n most : ℕ} {r : Record} {mem₀ : List ℕ} {at : Status} {regs : List ℕ} {i : ℕ}
-    (inv : Running live table d n most r mem₀ at regs mem i) where
+module _ (live : Bool) (mem shown : List ℕ) {d : Direction} {n most : ℕ} {x : Machine} {at : Status} {regs : List ℕ} {i : ℕ}
+    (inv : Running live d n most x at regs mem i) where
+  abbrev r : Record
+  r = x .state
+
+  -- the machine with the memory that is only read
+  abbrev y : Machine
+  y = leftAs x r shown
+
   run-room : i ≤ room d (r .position)
   run-room = let a = inv .loop .within in let b = inv .loop .limit .inside in omega arith
 
   -- what a run ends with, said of the record that it began with
   runs : (turns w : ℕ) (at′ : Status) (regs′ : List ℕ) (s : Store) (mem′ : List ℕ) → SameSizes (statusOf r) at′
-      → (live ≡ true → BatchPromise d n r mem₀ table (record { turns = turns; refusal = w; state = updated r (advanced d turns (r .position)) at′ regs′ }) mem′)
+      → (live ≡ true → BatchPromise d n x turns w (leftAs x (updated r (advanced d turns (r .position)) at′ regs′) mem′))
       → turns ≤ room d (r .position)
-      → (live ≡ false → 0 < n → First d r shown table w (updated r (advanced d (accepted w) (r .position)) at′ regs′) s)
+      → (live ≡ false → 0 < n → First d y w (updated r (advanced d (accepted w) (r .position)) at′ regs′) s)
       → (live ≡ false → 0 < n → accepted w ≤ room d (r .position))
-      → {a : Ran} → a ≡ record { turns = turns; refusal = w; at = at′; regs = regs′; store = s } → Runs live d n r mem₀ shown table a mem′
+      → {a : Ran} → a ≡ record { turns = turns; refusal = w; at = at′; regs = regs′; store = s } → Runs live d n x shown a mem′
   runs turns w at′ regs′ s mem′ z b m f c q =
-      subst⁻¹ (λ (a : Ran). Runs live d n r mem₀ shown table a mem′) q
+      subst⁻¹ (λ (a : Ran). Runs live d n x shown a mem′) q
       (record {
-        batch = λ l. subst (λ (u : Record). BatchPromise d n r mem₀ table (record { turns = turns; refusal = w; state = u }) mem′) (made-at r (advanced d turns (r .position)) at′ regs′ z) (b l);
+        batch = λ l. subst (λ (u : Record). BatchPromise d n x turns w (leftAs x u mem′)) (made-at r (advanced d turns (r .position)) at′ regs′ z) (b l);
         made = λ l. m;
-        first = λ l k. subst (λ (u : Record). First d r shown table w u s) (made-at r (advanced d (accepted w) (r .position)) at′ regs′ z) (f l k);
+        first = λ l k. subst (λ (u : Record). First d y w u s) (made-at r (advanced d (accepted w) (r .position)) at′ regs′ z) (f l k);
         counted = c;
         m = z .m;
       })
 
   -- all n turns are made, which are none where it is not live
-  pub run-done : {a : Ran} {k : Store} → most ≤ i → n ≤ most → a ≡ record { turns = i; refusal = 0; at = at; regs = regs; store = k } → Runs live d n r mem₀ shown table a mem
+  pub run-done : {a : Ran} {k : Store} → most ≤ i → n ≤ most → a ≡ record { turns = i; refusal = 0; at = at; regs = regs; store = k } → Runs live d n x shown a mem
   run-done h m =
       runs i 0 at regs _ mem (inv .loop .sizes) (λ l. done (inv .loop) h m) run-room
       (λ l k. let z = inv .first l .0 in absurd (omega arith)) (λ l k. let z = inv .first l .0 in absurd (omega arith))
 
   -- or there is room for no more
   pub run-full : {a : Ran} {w : ℕ} {words : List ℕ} {k : Store} → most ≤ i → most < n → words ≡ pick live mem shown
-      → w ≡ lastRefusal r words table → k ≡ noStore → a ≡ record { turns = i; refusal = w; at = at; regs = regs; store = k }
-      → Runs live d n r mem₀ shown table a mem
+      → w ≡ lastRefusal (leftAs x r words) → k ≡ noStore → a ≡ record { turns = i; refusal = w; at = at; regs = regs; store = k }
+      → Runs live d n x shown a mem
   run-full {words = words} h m o e s =
       runs i _ at regs _ mem (inv .loop .sizes) (λ l. rw (e, o, l) (full (inv .loop) h m)) run-room
-      (λ l k. rw (e, o, s, l) (last-shown l)) (λ l k. rw (e, none-accepted (wrongSizes r words table)) (omega arith))
+      (λ l k. rw (e, o, s, l) (last-shown l)) (λ l k. rw (e, none-accepted (wrongSizes (leftAs x r words))) (omega arith))
     where
       last-shown : live ≡ false
-          → (let w = lastRefusal r shown table in
-          First d r shown table w (updated r (advanced d (accepted w) (r .position)) at regs) noStore)
+          → (let w = lastRefusal y in
+          First d y w (updated r (advanced d (accepted w) (r .position)) at regs) noStore)
       last-shown l =
           let q = inv .first l in
           let i-zero = q .0 in
           let z = inv .loop .limit .full m in
           let e = last-room d (r .position) (inv .loop .bounds .position) .0 (omega arith) in
-          rw (q .1, q .2, none-accepted (wrongSizes r shown table), advance-none d (r .position)) (last-first d r shown table e)
+          rw (q .1, q .2, none-accepted (wrongSizes y), advance-none d (r .position)) (last-first d y e)
 
-  module _ {w : ℕ} {at′ : Status} {s : Store} {regs′ mem′ : List ℕ} (f : Steps live d at regs mem (pick live mem shown) table w at′ s regs′ mem′) where
-    lived : live ≡ true → Steps true d at regs mem mem table w at′ s regs′ mem′
-    lived l = subst (λ (b : Bool). Steps b d at regs mem (pick b mem shown) table w at′ s regs′ mem′) l f
+  module _ {w : ℕ} {at′ : Status} {s : Store} {regs′ mem′ : List ℕ} (f : Steps live d at regs mem (pick live mem shown) (x .table) w at′ s regs′ mem′) where
+    lived : live ≡ true → Steps true d at regs mem mem (x .table) w at′ s regs′ mem′
+    lived l = subst (λ (b : Bool). Steps b d at regs mem (pick b mem shown) (x .table) w at′ s regs′ mem′) l f
 
-    showed : live ≡ false → Steps false d (statusOf r) (r .regs) mem shown table w at′ s regs′ mem′
+    showed : live ≡ false → Steps false d (statusOf r) (r .regs) mem shown (x .table) w at′ s regs′ mem′
     showed l =
         let q = inv .first l in
-        subst₂ (λ (a : Status) (g : List ℕ). Steps false d a g mem shown table w at′ s regs′ mem′) (q .1) (q .2)
-        (subst (λ (b : Bool). Steps b d at regs mem (pick b mem shown) table w at′ s regs′ mem′) l f)
+        subst₂ (λ (a : Status) (g : List ℕ). Steps false d a g mem shown (x .table) w at′ s regs′ mem′) (q .1) (q .2)
+        (subst (λ (b : Bool). Steps b d at regs mem (pick b mem shown) (x .table) w at′ s regs′ mem′) l f)
 
-    pub run-long : length mem′ ≡ length mem₀
+    pub run-long : length mem′ ≡ length (x .memory)
     run-long = steps-long live mem shown f ∙ inv .loop .run .long
 
     sizes-after : SameSizes (statusOf r) at′
     sizes-after =
         let words = pick live mem shown in
-        let z = turned-sizes d (planAt d false at regs words table) (seen at regs words) in
+        let z = turned-sizes d (planAt d false at regs words (x .table)) (seen at regs words) in
         let y = inv .loop .sizes in
         subst⁻¹ (SameSizes (statusOf r)) (f .status) (record { k = z .k ∙ y .k; m = z .m ∙ y .m; n = z .n ∙ y .n })
 
     -- it goes on where the turn is accepted and live
-    pub run-again : i < most → eqb w 0 && live ≡ true → Running live table d n most r mem₀ at′ regs′ mem′ (i + 1)
+    pub run-again : i < most → eqb w 0 && live ≡ true → Running live d n most x at′ regs′ mem′ (i + 1)
     run-again h z =
         let q = and-true (eqb w 0) live z in
         record { loop = again (inv .loop) (lived (q .1)) h (eqb-true w 0 (q .0)); first = λ l. absurd (true≢false (sym (q .1) ∙ l)) }
 
     pub run-stop : {a : Ran} → i < most → eqb w 0 && live ≡ false → a ≡ record { turns = i; refusal = w; at = at′; regs = regs′; store = s }
-        → Runs live d n r mem₀ shown table a mem′
+        → Runs live d n x shown a mem′
     run-stop h z =
         runs i w at′ regs′ s mem′ sizes-after (λ l. stop (inv .loop) (lived l) h (refused l)) run-room (λ l k. one-shown l) (λ l k. one-counted (eqb w 0))
       where
@@ -142,49 +149,50 @@ module _ (live : Bool) (mem shown : List ℕ) {table : List ℕ} {d : Direction}
         one-counted true = omega arith
         one-counted false = omega arith
 
-        one-shown : live ≡ false → First d r shown table w (updated r (advanced d (accepted w) (r .position)) at′ regs′) s
+        one-shown : live ≡ false → First d y w (updated r (advanced d (accepted w) (r .position)) at′ regs′) s
         one-shown l =
             let g = showed l in
             let e = last-room d (r .position) (inv .loop .bounds .position) .1 (omega arith) in
             record {
-              refusal = refusal-is r g e;
-              state = state-is r g e 0 (r .position) (sym (advance-none d (r .position)));
-              store = store-is r g e refl;
+              refusal = refusal-is y g e;
+              state = state-is y g e 0 (r .position) (sym (advance-none d (r .position)));
+              store = store-is y g e refl;
             }
 
 -- what a live run is to its callers, who read the position from its bits and build the record s
-module _ {d : Direction} {n : ℕ} {r : Record} {mem shown table : List ℕ} {a : Ran} {mem′ : List ℕ} (f : Runs true d n r mem shown table a mem′) where
-  abbrev promise : BatchPromise d n r mem table (batchBy d r a) mem′
+module _ {d : Direction} {n : ℕ} {x : Machine} {shown : List ℕ} {a : Ran} {mem′ : List ℕ} (f : Runs true d n x shown a mem′) where
+  abbrev p : ℤ
+  p = x .state .position
+
+  abbrev promise : BatchPromise d n x (a .turns) (a .refusal) (leftAs x (recordBy d (a .turns) (x .state) a) mem′)
   promise = f .batch refl
 
-  as-read : asRead (r .position) ≡ r .position
+  as-read : asRead p ≡ p
   as-read = toZ-ofZ (promise .bounds .position)
 
-  pub live-room : a .turns ≤ room d (asRead (r .position))
+  pub live-room : a .turns ≤ room d (asRead p)
   live-room = rw as-read (f .made refl)
 
-  pub live-batch : {s : Record} → s ≡ recordAt (a .at) (a .regs) (advanced d (a .turns) (asRead (r .position)))
-      → BatchPromise d n r mem table (record { turns = a .turns; refusal = a .refusal; state = s }) mem′
+  pub live-batch : {s : Record} → s ≡ recordAt (a .at) (a .regs) (advanced d (a .turns) (asRead p))
+      → BatchPromise d n x (a .turns) (a .refusal) (leftAs x s mem′)
   live-batch e = rw (e, as-read) promise
 
 -- a batch of one is a single turn
-single : (d : Direction) (r : Record) (mem table : List ℕ)
-    → (batchOf d 1 r mem table .refusal ≡ refusal table d (machineOf r mem)) × (after table d (turnsMade table d 1 (machineOf r mem)) (machineOf r mem) ≡ next table d (machineOf r mem))
+single : (d : Direction) (x : Machine)
+    → (let k = turnsMade d 1 x in (pick (ltb k 1) (refusal d (after d k x)) 0 ≡ refusal d x) × (after d k x ≡ next d x))
 unfolding after turnsMade
-single d r mem table = go (eqb (refusal table d x) 0) refl
+single d x = go (eqb (refusal d x) 0) refl
   where
-    x : Machine
-    x = machineOf r mem
-
-    go : (b : Bool) → eqb (refusal table d x) 0 ≡ b
-        → (pick (ltb (pick b 1 0) 1) (refusal table d (after table d (pick b 1 0) x)) 0 ≡ refusal table d x) × (after table d (pick b 1 0) x ≡ next table d x)
+    go : (b : Bool) → eqb (refusal d x) 0 ≡ b
+        → (pick (ltb (pick b 1 0) 1) (refusal d (after d (pick b 1 0) x)) 0 ≡ refusal d x) × (after d (pick b 1 0) x ≡ next d x)
     go true e = (sym (eqb-true _ _ e), refl)
-    go false e = (refl, sym (refused-keeps table d x (eqb-false _ _ e)))
+    go false e = (refl, sym (refused-keeps d x (eqb-false _ _ e)))
 
-pub one : (d : Direction) (r : Record) (mem table : List ℕ) (b : Batch) (mem′ : List ℕ) → BatchPromise d 1 r mem table b mem′
-    → TurnPromise d r mem table (record { refusal = b .refusal; state = b .state }) mem′
-one d r mem table b mem′ h =
-    let s = single d r mem table in
-    let w : b .refusal ≡ refusal table d (machineOf r mem) = ap (λ (x : Batch). x .refusal) (h .answer) ∙ s .0 in
-    let e : b .state ≡ next table d (machineOf r mem) .state = ap (λ (x : Batch). x .state) (h .answer) ∙ ap (λ (x : Machine). x .state) (s .1) in
-    record { answer = λ j. record { refusal = w j; state = e j }; memory = h .memory ∙ ap (λ (x : Machine). x .memory) (s .1); bounds = h .bounds }
+pub one : (d : Direction) (x : Machine) {k w : ℕ} {y : Machine} → BatchPromise d 1 x k w y → TurnPromise d x w y
+one d x h =
+    let s = single d x in
+    record {
+      refusal = h .refusal ∙ (ap (λ (k : ℕ). pick (ltb k 1) (refusal d (after d k x)) 0) (h .turns) ∙ s .0);
+      left = h .left ∙ (ap (λ (k : ℕ). after d k x) (h .turns) ∙ s .1);
+      bounds = h .bounds;
+    }

@@ -18,11 +18,11 @@ use Rattle.step.specs.View.{View, seen}
 use Rattle.step.specs.Step.{written, noStore, storeOf, stored, performed, number}
 use Rattle.machine.specs.Turn.{from, newPc, planAt, turnedAt}
 use Rattle.machine.specs.Position.{advanced}
-use Rattle.machine.specs.Calls.{recordAt, wrongSizes, turnOf, accepted}
+use Rattle.machine.specs.Machine.{recordAt, Machine, leftAs, wrongSizes}
+use Rattle.machine.specs.Calls.{turnOf, accepted}
 use Rattle.machine.specs.Batch.{BatchPromise}
 use Rattle.machine.specs.Preview.{plannedStore, storeBy}
 use Rattle.machine.specs.declared.Record.{Record}
-use Rattle.machine.specs.declared.Batch.{Batch}
 use Rattle.machine.specs.declared.Ran.{Ran}
 
 -- pc after what a does, if it does anything
@@ -64,26 +64,23 @@ room Back (pos n) = 9223372036854775808 + n
 room Back (negsuc n) = 9223372036854775807 - n
 
 -- the refusal at the last position
-abbrev pub lastRefusal : Record → List ℕ → List ℕ → ℕ
-lastRefusal r mem table = pick (wrongSizes r mem table) 10 21
+abbrev pub lastRefusal : Machine → ℕ
+lastRefusal x = pick (wrongSizes x) 10 21
 
 -- the record k turns further, by what a run came to
 abbrev pub recordBy : Direction → ℕ → Record → Ran → Record
 recordBy d k r a = recordAt (a .at) (a .regs) (advanced d k (r .position))
 
-abbrev pub batchBy : Direction → Record → Ran → Batch
-batchBy d r a = record { turns = a .turns; refusal = a .refusal; state = recordBy d (a .turns) r a }
-
--- the first turn: its refusal w, the record r′ after it, and what it would store
-pub record First (d : Direction) (r : Record) (mem table : List ℕ) (w : ℕ) (r′ : Record) (s : Store) : Type 0 where
-  pub refusal : w ≡ turnOf d r mem table .refusal
-  pub state : r′ ≡ turnOf d r mem table .state
-  pub store : s ≡ storeBy d r mem table
+-- the first turn: its refusal w, the record r after it, and what it would store
+pub record First (d : Direction) (x : Machine) (w : ℕ) (r : Record) (s : Store) : Type 0 where
+  pub refusal : w ≡ turnOf d x .refusal
+  pub state : r ≡ turnOf d x .state
+  pub store : s ≡ storeBy d x
 
 -- one that is live is a batch of n; one that is not tells of the first turn; and there is room for what either counts
-pub record Runs (live : Bool) (d : Direction) (n : ℕ) (r : Record) (mem shown table : List ℕ) (a : Ran) (mem′ : List ℕ) : Type 0 where
-  pub batch : live ≡ true → BatchPromise d n r mem table (batchBy d r a) mem′
-  pub made : live ≡ true → a .turns ≤ room d (r .position)
-  pub first : live ≡ false → 0 < n → First d r shown table (a .refusal) (recordBy d (accepted (a .refusal)) r a) (a .store)
-  pub counted : live ≡ false → 0 < n → accepted (a .refusal) ≤ room d (r .position)
-  pub m : a .at .m ≡ r .m
+pub record Runs (live : Bool) (d : Direction) (n : ℕ) (x : Machine) (shown : List ℕ) (a : Ran) (mem′ : List ℕ) : Type 0 where
+  pub batch : live ≡ true → BatchPromise d n x (a .turns) (a .refusal) (leftAs x (recordBy d (a .turns) (x .state) a) mem′)
+  pub made : live ≡ true → a .turns ≤ room d (x .state .position)
+  pub first : live ≡ false → 0 < n → First d (leftAs x (x .state) shown) (a .refusal) (recordBy d (accepted (a .refusal)) (x .state) a) (a .store)
+  pub counted : live ≡ false → 0 < n → accepted (a .refusal) ≤ room d (x .state .position)
+  pub m : a .at .m ≡ x .state .m

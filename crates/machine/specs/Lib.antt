@@ -1,5 +1,6 @@
 pub mod Turn
 pub mod Position
+pub mod Machine
 pub mod Calls
 pub mod Claims
 pub mod Batch

@@ -7,7 +7,8 @@ use lib.IntN.{pos}
 use lib.ListN.{getD}
 use Rattle.step.specs.declared.Direction.{Direction}
 use Rattle.step.specs.declared.Direction.the-variants.{Forward, Back}
-use Rattle.machine.specs.Calls.{Machine, refusal, next}
+use Rattle.machine.specs.Machine.{Machine, machineOf}
+use Rattle.machine.specs.Calls.{refusal, next}
 use Rattle.machine.specs.Batch.{after}
 
 -- a turn that is looked at, after some that are only made, and what it shows
@@ -15,40 +16,40 @@ pub record Mark : Type 0 where
   pub way : Direction
   pub before : ℕ
   pub machine : Machine
-  pub table : List ℕ
   pub shows : List ℕ
 
 -- the turn's refusal; then pc, br, r1, r2, qifv and qifw after it, and the memory
-abbrev pub observed : Direction → List ℕ → Machine → List ℕ
-observed d table x =
-    let r = next table d x .state in
-    refusal table d x ∷ getD (r .regs) 0 0 ∷ getD (r .regs) 1 0 ∷ getD (r .regs) 4 0 ∷ getD (r .regs) 5 0 ∷ r .qifv ∷ r .qifw ∷ next table d x .memory
+abbrev pub observed : Direction → Machine → List ℕ
+observed d x =
+    let r = next d x .state in
+    refusal d x ∷ getD (r .regs) 0 0 ∷ getD (r .regs) 1 0 ∷ getD (r .regs) 4 0 ∷ getD (r .regs) 5 0 ∷ r .qifv ∷ r .qifw ∷ next d x .memory
 
 -- The statement: every row shows what it says
 abbrev pub Hold : List Mark → Type 0
 Hold [] = Unit {0}
-Hold (m ∷ rest) = (observed (m .way) (m .table) (after (m .table) (m .way) (m .before) (m .machine)) ≡ m .shows) × Hold rest
+Hold (m ∷ rest) = (observed (m .way) (after (m .way) (m .before) (m .machine)) ≡ m .shows) × Hold rest
 
--- pc, br, r1 and r2, with r3 0; the node; K, M and N; the memory
+-- pc, br, r1 and r2, with r3 0; the node; K, M and N; the memory and the table
+abbrev pub over : ℕ → ℕ → ℕ → ℕ → ℕ → ℕ → ℕ → ℕ → List ℕ → List ℕ → Machine
+over pc br a b node k m n =
+    machineOf
+    (record {
+      regs = pc ∷ br ∷ 0 ∷ 0 ∷ a ∷ b ∷ 0 ∷ 0 ∷ 0 ∷ 0 ∷ 0 ∷ 0 ∷ 0 ∷ 0 ∷ 0 ∷ 0 ∷ [];
+      qifv = node;
+      qifw = 0;
+      k = k;
+      m = m;
+      n = n;
+      position = pos 0;
+    })
+
+-- with no table
 abbrev pub at : ℕ → ℕ → ℕ → ℕ → ℕ → ℕ → ℕ → ℕ → List ℕ → Machine
-at pc br a b node k m n l =
-    record {
-      state =
-          record {
-            regs = pc ∷ br ∷ 0 ∷ 0 ∷ a ∷ b ∷ 0 ∷ 0 ∷ 0 ∷ 0 ∷ 0 ∷ 0 ∷ 0 ∷ 0 ∷ 0 ∷ 0 ∷ [];
-            qifv = node;
-            qifw = 0;
-            k = k;
-            m = m;
-            n = n;
-            position = pos 0;
-          };
-      memory = l;
-    }
+at pc br a b node k m n l = over pc br a b node k m n l []
 
--- a row with no table: the direction, the machine, what it shows
+-- a row: the direction, the machine, what it shows
 abbrev pub row : Direction → Machine → List ℕ → Mark
-row d x l = record { way = d; before = 0; machine = x; table = []; shows = l }
+row d x l = record { way = d; before = 0; machine = x; shows = l }
 
 -- node 1, whose first child for coin 1 is node 2, which waits 2 cycles
 abbrev pub waits : List ℕ
@@ -56,7 +57,7 @@ waits = 0 ∷ 2 ∷ 0 ∷ 0 ∷ 0 ∷ 0 ∷ 0 ∷ 0 ∷ 0 ∷ 0 ∷ 0 ∷ 0 ∷ 
 
 -- qif(r1) with coin 1 at node 1, after some turns
 abbrev pub waiting : ℕ → List ℕ → Mark
-waiting before l = record { way = Forward; before = before; machine = at 0 0 1 0 1 1 1 2 (0x18400000 ∷ []); table = waits; shows = l }
+waiting before l = record { way = Forward; before = before; machine = over 0 0 1 0 1 1 1 2 (0x18400000 ∷ []) waits; shows = l }
 
 -- nine words, of which the eighth is at pc 7
 abbrev pub atSeven : ℕ → List ℕ

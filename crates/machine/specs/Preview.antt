@@ -5,7 +5,7 @@ use mathlib.Core.Logic.{_≢_}
 use mathlib.Core.Bool.{Bool, not, _&&_}
 use mathlib.Core.List.{List}
 use lib.Dec.{eqb}
-use lib.ListN.{getD, set, take}
+use lib.ListN.{getD, set}
 use Rattle.word.specs.Word.{pick}
 use Rattle.step.specs.declared.Direction.{Direction}
 use Rattle.step.specs.declared.Attempt.{Attempt}
@@ -13,10 +13,9 @@ use Rattle.step.specs.declared.Attempt.the-variants.{Refused, Does}
 use Rattle.step.specs.declared.Store.{Store}
 use Rattle.step.specs.View.{View}
 use Rattle.step.specs.Step.{noStore, storeOf}
-use Rattle.machine.specs.Turn.{from}
-use Rattle.machine.specs.Calls.{Bounded, machineOf, viewOf, planOf, turnOf, TurnPromise}
+use Rattle.machine.specs.Machine.{Machine, leftAs, stateOf, Bounded}
+use Rattle.machine.specs.Calls.{planOf, turnOf, found, TurnPromise}
 use Rattle.machine.specs.declared.Record.{Record}
-use Rattle.machine.specs.declared.Turned.{Turned}
 use Rattle.machine.specs.declared.Preview.{Preview}
 
 -- the memory word that a plan would store, in the view s that its word finds
@@ -24,8 +23,8 @@ abbrev pub plannedStore : Attempt → View → Store
 plannedStore (Refused n) s = noStore
 plannedStore (Does e) s = storeOf e (s .regs)
 
-abbrev pub storeBy : Direction → Record → List ℕ → List ℕ → Store
-storeBy d r mem table = plannedStore (planOf d r mem table) (from d (viewOf r mem))
+abbrev pub storeBy : Direction → Machine → Store
+storeBy d x = plannedStore (planOf d x) (found d x)
 
 -- what is reported of a turn with this refusal and record, which stores s where the word present is: a word changes if it is
 -- another one
@@ -38,41 +37,38 @@ reported refusal r s present =
     record { refusal = refusal; changes = pick c 1 0; address = pick c (s .address) 0; value = pick c (s .value) 0; state = r }
 
 -- the answer: the refusal and the record of the turn, and the word that it would change
-abbrev pub previewOf : Direction → Record → List ℕ → List ℕ → Preview
-previewOf d r mem table =
-    let t = turnOf d r mem table in
-    let s = storeBy d r mem table in
-    reported (t .refusal) (t .state) s (getD (take (r .m) mem) (s .address) 0)
+abbrev pub previewOf : Direction → Machine → Preview
+previewOf d x =
+    let t = turnOf d x in
+    let s = storeBy d x in
+    reported (t .refusal) (t .state) s (getD (stateOf x .words) (s .address) 0)
 
--- What a preview from r, mem and table promises of its answer; and the bounds of its arguments, as of a turn's.
-pub record PreviewPromise (d : Direction) (r : Record) (mem table : List ℕ) (p : Preview) : Type 0 where
-  pub answer : p ≡ previewOf d r mem table
-  pub bounds : Bounded (machineOf r mem)
+-- What a preview from x promises of its answer; and the bounds of its arguments, as of a turn's.
+pub record PreviewPromise (d : Direction) (x : Machine) (p : Preview) : Type 0 where
+  pub answer : p ≡ previewOf d x
+  pub bounds : Bounded x
 
--- ---- what is claimed: a preview p is the turn made on a copy, with answer a and memory mem′. Proved in proofs/Shown.
+-- ---- what is claimed: a preview p is the turn made on a copy, with refusal n, which leaves y. Proved in proofs/Shown.
 
 -- the memory with the reported word set
 abbrev pub reportedIn : Preview → List ℕ → List ℕ
 reportedIn p mem = pick (eqb (p .changes) 1) (set mem (p .address) (p .value)) mem
 
-pub record ShowsTurn (r : Record) (mem : List ℕ) (p : Preview) (a : Turned) (mem′ : List ℕ) : Type 0 where
-  pub answer : a ≡ record { refusal = p .refusal; state = p .state }
-  pub memory : mem′ ≡ reportedIn p mem
+pub record ShowsTurn (x : Machine) (p : Preview) (n : ℕ) (y : Machine) : Type 0 where
+  pub refusal : n ≡ p .refusal
+  pub left : y ≡ leftAs x (p .state) (reportedIn p (x .memory))
   -- what is reported is a data word that changes
-  pub inside : p .changes ≡ 1 → (r .k ≤ p .address) × (p .address < r .m)
-  pub new : p .changes ≡ 1 → (getD mem′ (p .address) 0 ≡ p .value) × (p .value ≢ getD mem (p .address) 0)
+  pub inside : p .changes ≡ 1 → (x .state .k ≤ p .address) × (p .address < x .state .m)
+  pub new : p .changes ≡ 1 → (getD (y .memory) (p .address) 0 ≡ p .value) × (p .value ≢ getD (x .memory) (p .address) 0)
   -- and else nothing is
   pub none : p .changes ≢ 1 → (p .changes ≡ 0) × (p .address ≡ 0) × (p .value ≡ 0)
 
 abbrev pub Previews : Type 0
-Previews =
-    (d : Direction) (r : Record) (mem table : List ℕ) (p : Preview) (a : Turned) (mem′ : List ℕ)
-    → PreviewPromise d r mem table p → TurnPromise d r mem table a mem′ → ShowsTurn r mem p a mem′
+Previews = (d : Direction) (x : Machine) (p : Preview) (n : ℕ) (y : Machine) → PreviewPromise d x p → TurnPromise d x n y → ShowsTurn x p n y
 
 -- and where the turn would be refused it shows the record as it was given, and no word
 abbrev pub refusedBy : ℕ → Record → Preview
 refusedBy n r = record { refusal = n; changes = 0; address = 0; value = 0; state = r }
 
 abbrev pub ShowsRefusal : Type 0
-ShowsRefusal =
-    (d : Direction) (r : Record) (mem table : List ℕ) (p : Preview) → PreviewPromise d r mem table p → p .refusal ≢ 0 → p ≡ refusedBy (p .refusal) r
+ShowsRefusal = (d : Direction) (x : Machine) (p : Preview) → PreviewPromise d x p → p .refusal ≢ 0 → p ≡ refusedBy (p .refusal) (x .state)

@@ -3,7 +3,8 @@ ghost use mathlib.Core.Path.{_≡_};
 ghost use Prim.Native.Nat.{_≤_};
 ghost use Rattle.qins.specs.Decode.{isInstruction};
 ghost use Rattle.step.specs.declared.Direction.{Direction};
-ghost use Rattle.machine.specs.Calls.{statusOf, recordAt, zeros, wrongSizes, TurnPromise};
+ghost use Rattle.machine.specs.Machine.{statusOf, recordAt, zeros, machineOf, wrongSizes};
+ghost use Rattle.machine.specs.Calls.{TurnPromise};
 ghost use Rattle.machine.specs.Batch.{BatchPromise};
 ghost use Rattle.machine.specs.Preview.{reported, PreviewPromise};
 ghost use Rattle.machine.specs.Position.{advanced};
@@ -151,14 +152,14 @@ impl Record {
 
     // Refusal 10: sizes out of range, or lent memory or table too short.
     pub fn has_bad_sizes(self, mem: &[u32], table: &[u32]) -> bool
-        ensures { λ r. ⌜ r ≡ wrongSizes self (now (mem .entry)) (now (table .entry)) ⌝ }
+        ensures { λ r. ⌜ r ≡ wrongSizes (machineOf self (now (mem .entry)) (now (table .entry))) ⌝ }
     {
         step::sizes::are_bad_sizes(self.status(), mem, table)
     }
 
     // The refusal of a turn at the last position.
     fn last_refusal(self, mem: &[u32], table: &[u32]) -> u32
-        ensures { λ r. ⌜ r ≡ lastRefusal self (now (mem .entry)) (now (table .entry)) ⌝ }
+        ensures { λ r. ⌜ r ≡ lastRefusal (machineOf self (now (mem .entry)) (now (table .entry))) ⌝ }
     {
         word::choose(self.has_bad_sizes(mem, table), 10, 21)
     }
@@ -176,7 +177,7 @@ impl Record {
         shown: &[u32],
         table: &[u32],
     ) -> Ran
-        ensures { λ r. ⌜ Runs live d n self (now (mem .entry)) (now (shown .entry)) (now (table .entry)) r (now (mem .exit)) ⌝ }
+        ensures { λ r. ⌜ Runs live d n (machineOf self (now (mem .entry)) (now (table .entry))) (now (shown .entry)) r (now (mem .exit)) ⌝ }
     {
         let mut regs = self.regs;
         let mut at = self.status();
@@ -201,7 +202,7 @@ impl Record {
     }
 
     fn batch(self, d: Direction, n: u32, mem: &mut [u32], table: &[u32]) -> Batch
-        ensures { λ r. ⌜ BatchPromise d n self (now (mem .entry)) (now (table .entry)) r (now (mem .exit)) ⌝ }
+        ensures { λ r. ⌜ BatchPromise d n (machineOf self (now (mem .entry)) (now (table .entry))) (r .turns) (r .refusal) (machineOf (r .state) (now (mem .exit)) (now (table .entry))) ⌝ }
     {
         let none = [0; 0];
         let p = self.position;
@@ -218,7 +219,7 @@ impl Record {
 
     // One turn: a run of one, not by way of a batch, whose record would be one copy more.
     fn turn(self, d: Direction, mem: &mut [u32], table: &[u32]) -> Turned
-        ensures { λ r. ⌜ TurnPromise d self (now (mem .entry)) (now (table .entry)) r (now (mem .exit)) ⌝ }
+        ensures { λ r. ⌜ TurnPromise d (machineOf self (now (mem .entry)) (now (table .entry))) (r .refusal) (machineOf (r .state) (now (mem .exit)) (now (table .entry))) ⌝ }
     {
         let none = [0; 0];
         let p = self.position;
@@ -234,7 +235,7 @@ impl Record {
 
     // One turn, shown: a run that is not live.
     fn preview(self, d: Direction, mem: &[u32], table: &[u32]) -> Preview
-        ensures { λ r. ⌜ PreviewPromise d self (now (mem .entry)) (now (table .entry)) r ⌝ }
+        ensures { λ r. ⌜ PreviewPromise d (machineOf self (now (mem .entry)) (now (table .entry))) r ⌝ }
     {
         let mut none = [0; 0];
         let p = self.position;
@@ -249,42 +250,42 @@ impl Record {
 
     // One turn forward.
     pub fn forward(self, mem: &mut [u32], table: &[u32]) -> Turned
-        ensures { λ r. ⌜ TurnPromise Direction.Forward self (now (mem .entry)) (now (table .entry)) r (now (mem .exit)) ⌝ }
+        ensures { λ r. ⌜ TurnPromise Direction.Forward (machineOf self (now (mem .entry)) (now (table .entry))) (r .refusal) (machineOf (r .state) (now (mem .exit)) (now (table .entry))) ⌝ }
     {
         self.turn(Direction::Forward, mem, table)
     }
 
     // One turn back.
     pub fn back(self, mem: &mut [u32], table: &[u32]) -> Turned
-        ensures { λ r. ⌜ TurnPromise Direction.Back self (now (mem .entry)) (now (table .entry)) r (now (mem .exit)) ⌝ }
+        ensures { λ r. ⌜ TurnPromise Direction.Back (machineOf self (now (mem .entry)) (now (table .entry))) (r .refusal) (machineOf (r .state) (now (mem .exit)) (now (table .entry))) ⌝ }
     {
         self.turn(Direction::Back, mem, table)
     }
 
     // The turn forward, shown and not made.
     pub fn preview_forward(self, mem: &[u32], table: &[u32]) -> Preview
-        ensures { λ r. ⌜ PreviewPromise Direction.Forward self (now (mem .entry)) (now (table .entry)) r ⌝ }
+        ensures { λ r. ⌜ PreviewPromise Direction.Forward (machineOf self (now (mem .entry)) (now (table .entry))) r ⌝ }
     {
         self.preview(Direction::Forward, mem, table)
     }
 
     // The turn back, shown and not made.
     pub fn preview_back(self, mem: &[u32], table: &[u32]) -> Preview
-        ensures { λ r. ⌜ PreviewPromise Direction.Back self (now (mem .entry)) (now (table .entry)) r ⌝ }
+        ensures { λ r. ⌜ PreviewPromise Direction.Back (machineOf self (now (mem .entry)) (now (table .entry))) r ⌝ }
     {
         self.preview(Direction::Back, mem, table)
     }
 
     // n turns forward, or those before the first refusal.
     pub fn forward_batch(self, n: u32, mem: &mut [u32], table: &[u32]) -> Batch
-        ensures { λ r. ⌜ BatchPromise Direction.Forward n self (now (mem .entry)) (now (table .entry)) r (now (mem .exit)) ⌝ }
+        ensures { λ r. ⌜ BatchPromise Direction.Forward n (machineOf self (now (mem .entry)) (now (table .entry))) (r .turns) (r .refusal) (machineOf (r .state) (now (mem .exit)) (now (table .entry))) ⌝ }
     {
         self.batch(Direction::Forward, n, mem, table)
     }
 
     // n turns back, likewise.
     pub fn back_batch(self, n: u32, mem: &mut [u32], table: &[u32]) -> Batch
-        ensures { λ r. ⌜ BatchPromise Direction.Back n self (now (mem .entry)) (now (table .entry)) r (now (mem .exit)) ⌝ }
+        ensures { λ r. ⌜ BatchPromise Direction.Back n (machineOf self (now (mem .entry)) (now (table .entry))) (r .turns) (r .refusal) (machineOf (r .state) (now (mem .exit)) (now (table .entry))) ⌝ }
     {
         self.batch(Direction::Back, n, mem, table)
     }

@@ -1,6 +1,6 @@
 -- The call around the walk: what an accepted start gives, and what is promised of either end. Assumes nothing.
 use mathlib.Core.Path.{_≡_, refl, sym, ap, _∙_}
-use mathlib.Core.Bool.{Bool, true, false, not, _&&_}
+use mathlib.Core.Bool.{Bool, true, false, _&&_}
 use mathlib.Core.List.{List, _++_}
 use Prim.Native.Nat.{ℕ, _*_, _<_, _≤_}
 use native.Mathlib.Omega.{arith}
@@ -10,10 +10,9 @@ use lib.Seq.{length-take-le, drop-append-seam}
 use borrow.Author.Tests.{ltb-true, leb-true, eqb-true, ne-eqb, not-false}
 use Rattle.word.specs.Word.{pick}
 use Rattle.step.specs.Sizes.{inRange, badSizes}
-use Rattle.step.specs.View.{nodes}
 use Rattle.machine.specs.Turn.{starts}
 use Rattle.machine.specs.declared.Record.{Record}
-use Rattle.machine.specs.Calls.{statusOf, wrongSizes}
+use Rattle.machine.specs.Machine.{statusOf, Machine, machineOf, leftAs, stateOf, wrongSizes}
 use Rattle.maker.specs.declared.Made.{Made}
 use Rattle.maker.specs.Parts.{Sized}
 use Rattle.maker.specs.Make.{mostWords, walkOver, scratchWords, canBegin, refusalOf, outcomeOf, madeAs, answerOf, drawnBy, MakePromise}
@@ -22,25 +21,28 @@ use Rattle.maker.proofs.Counts.{not-first, not-second}
 
 -- ---- what a start that is not refused gives
 
-pub record Ready (r : Record) (mem table scratch : List ℕ) : Type 0 where
-  pub sizes : wrongSizes r mem table ≡ false
-  pub code : (0 < r .k) × (r .k ≤ r .m) × (r .m ≤ 8192)
-  pub words : r .m ≤ length mem
-  pub front : r .m ≡ length (take (r .m) mem)
-  pub wait : r .qifw ≡ 0
-  pub nodes : 4599 ≤ length table
-  pub table-front : 4599 ≡ length (take 4599 table)
-  pub room : 16 * r .m ≤ length scratch
-  pub room-front : 16 * r .m ≡ length (take (16 * r .m) scratch)
+pub record Ready (x : Machine) (scratch : List ℕ) : Type 0 where
+  pub sizes : wrongSizes x ≡ false
+  pub code : (0 < x .state .k) × (x .state .k ≤ x .state .m) × (x .state .m ≤ 8192)
+  pub words : x .state .m ≤ length (x .memory)
+  pub front : x .state .m ≡ length (take (x .state .m) (x .memory))
+  pub wait : x .state .qifw ≡ 0
+  pub nodes : 4599 ≤ length (x .table)
+  pub table-front : 4599 ≡ length (take 4599 (x .table))
+  pub room : 16 * x .state .m ≤ length scratch
+  pub room-front : 16 * x .state .m ≡ length (take (16 * x .state .m) scratch)
 
 shorter : (m : ℕ) (l : List ℕ) → length (take m l) ≤ length l
 shorter m l = omega (arith, length-take m l)
 
-pub ready : (r : Record) (mem table scratch : List ℕ) → refusalOf r mem table scratch ≡ 0 → Ready r mem table scratch
+pub ready : (x : Machine) (scratch : List ℕ) → refusalOf x scratch ≡ 0 → Ready x scratch
 unfolding badSizes inRange
-ready r mem table scratch e =
-    let w = not-first (wrongSizes r mem table) 9 (pick (canBegin r mem table scratch) 0 22) e in
-    let q₀ : Bool = leb (r .m) (length (take (r .m) mem)) && leb (9 * r .n) (length (nodes (statusOf r) table)) in
+ready x scratch e =
+    let r = x .state in
+    let mem = x .memory in
+    let table = x .table in
+    let w = not-first (wrongSizes x) 9 (pick (canBegin x scratch) 0 22) e in
+    let q₀ : Bool = leb (r .m) (length (take (r .m) mem)) && leb (9 * r .n) (length (stateOf x .links)) in
     let p₃ : Bool = leb (r .m) 8192 && leb (r .n) 511 in
     let p₂ : Bool = leb (r .k) (r .m) && p₃ in
     let a = and-true (ltb 0 (r .k) && p₂) q₀ (not-false _ (w .0)) in
@@ -69,39 +71,45 @@ ready r mem table scratch e =
       room-front = sym (length-take-le (16 * r .m) scratch room);
     }
 
-module _ (r : Record) (limit : ℕ) (mem table scratch : List ℕ) where
-  pub sized-front : Ready r mem table scratch → Sized (r .k) (r .m) (length (take (r .m) mem))
+module _ (x : Machine) (limit : ℕ) (scratch : List ℕ) where
+  abbrev r : Record
+  r = x .state
+
+  abbrev start : ℕ
+  start = refusalOf x scratch
+
+  pub sized-front : Ready x scratch → Sized (r .k) (r .m) (length (stateOf x .words))
   sized-front h = (h .code .0, h .code .1, h .code .2, sym (h .front))
 
   -- ---- 10 and 22
 
-  pub refused-promise : (n : ℕ) (a : Made) → n ≡ refusalOf r mem table scratch → ¬ (n ≡ 0) → a ≡ madeAs n 0 r
-      → MakePromise r limit mem table scratch a mem table scratch
+  pub refused-promise : (n : ℕ) (a : Made) → n ≡ start → ¬ (n ≡ 0) → a ≡ madeAs n 0 r
+      → MakePromise x limit scratch (a .refusal) (a .cycles) (leftAs x (a .state) (x .memory)) scratch
   refused-promise n a e h q =
-      let no : eqb (refusalOf r mem table scratch) 0 ≡ false = ne-eqb (refusalOf r mem table scratch) 0 (λ z. h (e ∙ z)) in
+      let no : eqb start 0 ≡ false = ne-eqb start 0 (λ z. h (e ∙ z)) in
       record {
-        answer = q ∙ (ap (λ (i : ℕ). madeAs i 0 r) e ∙ sym (ap (λ (b : Bool). pick b (answerOf r (outcomeOf r limit mem)) (madeAs (refusalOf r mem table scratch) 0 r)) no));
+        answer = q ∙ (ap (λ (i : ℕ). madeAs i 0 r) e ∙ sym (ap (λ (b : Bool). pick b (answerOf r (outcomeOf x limit)) (madeAs start 0 r)) no));
         memory = refl;
-        nodes = sym (ap (λ (b : Bool). pick b (drawnBy (outcomeOf r limit mem) ++ drop mostWords table) table) no);
+        nodes = sym (ap (λ (b : Bool). pick b (drawnBy (outcomeOf x limit) ++ drop mostWords (x .table)) (x .table)) no);
         behind = refl;
         untouched = λ z. refl;
       }
 
   -- ---- the walk, over the fronts
 
-  pub made-promise : refusalOf r mem table scratch ≡ 0 → (a : Made) (m t s : List ℕ)
-      → a ≡ answerOf r (walkOver r limit (take (r .m) mem))
-      → t ≡ drawnBy (walkOver r limit (take (r .m) mem))
-      → m ≡ take (r .m) mem → length s ≡ 16 * r .m
-      → MakePromise r limit mem table scratch a (m ++ drop (r .m) mem) (t ++ drop mostWords table) (s ++ drop (scratchWords r) scratch)
+  pub made-promise : start ≡ 0 → (a : Made) (m t s : List ℕ)
+      → a ≡ answerOf r (walkOver r limit (stateOf x .words))
+      → t ≡ drawnBy (walkOver r limit (stateOf x .words))
+      → m ≡ stateOf x .words → length s ≡ 16 * r .m
+      → MakePromise x limit scratch (a .refusal) (a .cycles) (machineOf (a .state) (m ++ drop (r .m) (x .memory)) (t ++ drop mostWords (x .table))) (s ++ drop (scratchWords r) scratch)
   unfolding outcomeOf
   made-promise e a m t s p q f l =
-      let yes : eqb (refusalOf r mem table scratch) 0 ≡ true = ap (λ (i : ℕ). eqb i 0) e in
+      let yes : eqb start 0 ≡ true = ap (λ (i : ℕ). eqb i 0) e in
       record {
-        answer = p ∙ sym (ap (λ (b : Bool). pick b (answerOf r (outcomeOf r limit mem)) (madeAs (refusalOf r mem table scratch) 0 r)) yes);
-        memory = ap (λ (x : List ℕ). x ++ drop (r .m) mem) f ∙ take-append-drop (r .m) mem;
-        nodes = ap (λ (x : List ℕ). x ++ drop mostWords table) q
-            ∙ sym (ap (λ (b : Bool). pick b (drawnBy (outcomeOf r limit mem) ++ drop mostWords table) table) yes);
+        answer = p ∙ sym (ap (λ (b : Bool). pick b (answerOf r (outcomeOf x limit)) (madeAs start 0 r)) yes);
+        memory = ap (λ (l : List ℕ). l ++ drop (r .m) (x .memory)) f ∙ take-append-drop (r .m) (x .memory);
+        nodes = ap (λ (l : List ℕ). l ++ drop mostWords (x .table)) q
+            ∙ sym (ap (λ (b : Bool). pick b (drawnBy (outcomeOf x limit) ++ drop mostWords (x .table)) (x .table)) yes);
         behind = ap (λ (i : ℕ). drop i (s ++ drop (scratchWords r) scratch)) (sym l) ∙ drop-append-seam s (drop (scratchWords r) scratch);
         untouched = λ h. absurd (h e);
       }

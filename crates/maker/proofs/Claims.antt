@@ -1,5 +1,5 @@
 -- The claims of a made table. Assumes nothing.
-use mathlib.Core.Path.{_≡_, refl, sym, ap, ap₂, _∙_, subst}
+use mathlib.Core.Path.{_≡_, refl, sym, ap, ap₂, _∙_, subst, subst₂}
 use mathlib.Core.Bool.{Bool, true, false, _&&_, _||_, false≢true}
 use mathlib.Core.Logic.{_⊎_, inl, inr}
 use mathlib.Core.List.{List, [], _∷_, _++_}
@@ -17,10 +17,10 @@ use Rattle.step.specs.declared.Status.{Status}
 use Rattle.step.specs.Table.{tableWords}
 use Rattle.step.specs.Step.{refuse}
 use Rattle.step.specs.Sizes.{inRange, badSizes}
-use Rattle.step.specs.View.{View, nodes}
+use Rattle.step.specs.View.{View}
 use Rattle.machine.specs.Turn.{pc, landed, judged, executed, planned}
 use Rattle.machine.specs.declared.Record.{Record}
-use Rattle.machine.specs.Calls.{statusOf, viewOf, wrongSizes}
+use Rattle.machine.specs.Machine.{Machine, machineOf, stateOf, viewOf, wrongSizes}
 use Rattle.image.specs.Check.{unpaired, checkOf, checkNodeOf}
 use Rattle.maker.specs.declared.Made.{Made}
 use Rattle.maker.specs.Walk.{Walk, size, cycles, ending, drawn}
@@ -86,13 +86,19 @@ module _ (p : Walk) (few : 1 + size p ≤ 511) where
 
 -- ---- what an accepted call comes to
 
-module _ (r : Record) (limit : ℕ) (mem table : List ℕ) (p : Walk) (z : View) (e : outcomeOf r limit mem ≡ ended p z) (sizes : (0 < r .k) × (r .k ≤ r .m) × (r .m ≤ 8192))
-    (words : r .m ≤ length mem) (wait : r .qifw ≡ 0) where
+abbrev finished : Machine → Walk → Machine
+finished x p = machineOf (withTable (x .state) (1 + size p)) (x .memory) (drawn p 1 1 (zeros mostWords) ++ drop mostWords (x .table))
+
+module _ (x : Machine) (limit : ℕ) (p : Walk) (z : View) (e : outcomeOf x limit ≡ ended p z) (sizes : (0 < x .state .k) × (x .state .k ≤ x .state .m) × (x .state .m ≤ 8192))
+    (words : x .state .m ≤ length (x .memory)) (wait : x .state .qifw ≡ 0) where
+  abbrev r : Record
+  r = x .state
+
   s : View
-  s = viewAt (r .k) (r .m) (r .regs) (take (r .m) mem)
+  s = viewAt (r .k) (r .m) (r .regs) (stateOf x .words)
 
   abbrev full : List ℕ
-  full = drawn p 1 1 (zeros mostWords) ++ drop mostWords table
+  full = finished x p .table
 
   walk-is : branchAt machine limit 8 false 1 0 s ≡ ended p z
   unfolding outcomeOf s
@@ -109,14 +115,14 @@ module _ (r : Record) (limit : ℕ) (mem table : List ℕ) (p : Walk) (z : View)
         le-leb (r .k) (r .m) (sizes .1),
         le-leb (r .m) 8192 (sizes .2),
         le-leb (1 + size p) 511 few,
-        le-leb (r .m) (length (take (r .m) mem)) (omega (arith, length-take-le (r .m) mem words)),
+        le-leb (r .m) (length (stateOf x .words)) (omega (arith, length-take-le (r .m) (x .memory) words)),
         le-leb (9 * (1 + size p)) (length (t p few)) (omega (arith, length-take-le (9 * (1 + size p)) (D p few) (long p few))),
       )
 
-  begins : viewOf (withTable r (1 + size p)) mem ≡ placed (1 + size p) 1 0 s
+  begins : viewOf (finished x p) ≡ placed (1 + size p) 1 0 s
   unfolding s
   begins =
-      ap (λ (j : ℕ). record { at = record { qifv = 1; qifw = j; k = r .k; m = r .m; n = 1 + size p }; regs = r .regs; memory = take (r .m) mem }) wait
+      ap (λ (j : ℕ). record { at = record { qifv = 1; qifw = j; k = r .k; m = r .m; n = 1 + size p }; regs = r .regs; memory = stateOf x .words }) wait
 
   last : View
   last = placed (1 + size p) (ending p 1 1) 0 z
@@ -133,126 +139,123 @@ module _ (r : Record) (limit : ℕ) (mem table : List ℕ) (p : Walk) (z : View)
       ap (λ (y : View). judged (t p few) Forward false (pc last) y (landed Forward y (idled (t p few) y))) (from-is last)
       ∙ rw (goes (λ i. 0) (λ i. omega arith) .1, f .0, f .1)
 
-  every : EveryChoice (madeAs 0 (cycles p) (withTable r (1 + size p))) mem full
+  every : EveryChoice (cycles p) (finished x p)
   every =
       record {
         end = last;
         walks = λ c b.
-            ap₂ (λ (x : List ℕ) (y : View). follows x c (cycles p) 0 (walker y [])) (front p few (drop mostWords table)) begins ∙ goes c b .0;
-        finished = ap (λ (x : List ℕ). plannedIdle x last) (front p few (drop mostWords table)) ∙ stands;
+            ap₂ (λ (l : List ℕ) (y : View). follows l c (cycles p) 0 (walker y [])) (front p few (drop mostWords (x .table))) begins ∙ goes c b .0;
+        finished = ap (λ (x : List ℕ). plannedIdle x last) (front p few (drop mostWords (x .table))) ∙ stands;
       }
 
   -- the record's own sizes
-  right-sizes : wrongSizes (withTable r (1 + size p)) mem full ≡ false
+  right-sizes : wrongSizes (finished x p) ≡ false
   unfolding badSizes inRange
   right-sizes =
       rw (
-        front p few (drop mostWords table),
+        front p few (drop mostWords (x .table)),
         lt-ltb 0 (r .k) (sizes .0),
         le-leb (r .k) (r .m) (sizes .1),
         le-leb (r .m) 8192 (sizes .2),
         le-leb (1 + size p) 511 few,
-        le-leb (r .m) (length (take (r .m) mem)) (omega (arith, length-take-le (r .m) mem words)),
+        le-leb (r .m) (length (stateOf x .words)) (omega (arith, length-take-le (r .m) (x .memory) words)),
         le-leb (9 * (1 + size p)) (length (t p few)) (omega (arith, length-take-le (9 * (1 + size p)) (D p few) (long p few))),
       )
 
   linked : (v : ℕ) → 0 < v → v ≤ 1 + size p → unpaired (take (9 * (1 + size p)) full) (1 + size p) v ≡ false
   linked v h k =
-      ap (λ (x : List ℕ). unpaired x (1 + size p) v) (front p few (drop mostWords table))
+      ap (λ (x : List ℕ). unpaired x (1 + size p) v) (front p few (drop mostWords (x .table)))
       ∙ made-paired p (zeros mostWords) v (omega (arith, few, zeros-long mostWords)) (zero-word mostWords) h k
 
   behind : (i : ℕ) → 9 * (1 + size p) ≤ i → i < mostWords → getD full i 0 ≡ 0
   behind i h k =
-      List·getD-append (D p few) (drop mostWords table) 0 i (omega (arith, k, drawn-long p 1 1 (zeros mostWords), zeros-long mostWords))
+      List·getD-append (D p few) (drop mostWords (x .table)) 0 i (omega (arith, k, drawn-long p 1 1 (zeros mostWords), zeros-long mostWords))
       ∙ made-zeros p (zeros mostWords) i few (omega (arith, zeros-long mostWords)) (zero-word mostWords) h
 
 -- ---- of whatever the call promises
 
-numbered : (r : Record) (limit : ℕ) (mem : List ℕ) → Numbered (outcomeOf r limit mem)
+numbered : (x : Machine) (limit : ℕ) → Numbered (outcomeOf x limit)
 unfolding outcomeOf
-numbered r limit mem = branch-numbered machine halt-is limit 8 false 1 0 _
+numbered x limit = branch-numbered machine halt-is limit 8 false 1 0 _
 
 listed : (i : ℕ) → isOneOf i walkRefusals ≡ true → ¬ (i ≡ 0)
 listed i h e = false≢true (subst (λ (j : ℕ). isOneOf j walkRefusals ≡ true) e h)
 
 -- 10 or 22
 abbrev number : Bool → Bool → ℕ
-number x y = pick x 10 (pick y 0 22)
+number a b = pick a 10 (pick b 0 22)
 
-module _ {r : Record} {limit : ℕ} {mem table scratch : List ℕ} {a : Made} {mem′ table′ scratch′ : List ℕ}
-    (m : MakePromise r limit mem table scratch a mem′ table′ scratch′) where
+module _ {x y : Machine} {limit n c : ℕ} {scratch scratch′ : List ℕ} (m : MakePromise x limit scratch n c y scratch′) where
+  abbrev a : Made
+  a = madeAs n c (y .state)
+
   abbrev start : ℕ
-  start = refusalOf r mem table scratch
+  start = refusalOf x scratch
 
   abbrev o : Outcome View
-  o = outcomeOf r limit mem
+  o = outcomeOf x limit
 
-  told : (b : Bool) → eqb start 0 ≡ b → (a ≡ pick b (answerOf r o) (madeAs start 0 r)) × (table′ ≡ pick b (drawnBy o ++ drop mostWords table) table)
+  told : (b : Bool) → eqb start 0 ≡ b → (a ≡ pick b (answerOf (x .state) o) (madeAs start 0 (x .state))) × (y .table ≡ pick b (drawnBy o ++ drop mostWords (x .table)) (x .table))
   told b e = (
-    m .answer ∙ ap (λ (b : Bool). pick b (answerOf r o) (madeAs start 0 r)) e,
-    m .nodes ∙ ap (λ (b : Bool). pick b (drawnBy o ++ drop mostWords table) table) e,
+    m .answer ∙ ap (λ (b : Bool). pick b (answerOf (x .state) o) (madeAs start 0 (x .state))) e,
+    m .nodes ∙ ap (λ (b : Bool). pick b (drawnBy o ++ drop mostWords (x .table)) (x .table)) e,
   )
 
   -- a call that is refused at once, refused in the walk, or accepted
   by-case : (P : Type 0)
-      → (¬ (start ≡ 0) → a ≡ madeAs start 0 r → table′ ≡ table → P)
-      → ((i : ℕ) → isOneOf i walkRefusals ≡ true → a ≡ madeAs i 0 r → table′ ≡ zeros mostWords ++ drop mostWords table → P)
-      → ((p : Walk) (z : View) → o ≡ ended p z → Ready r mem table scratch → a ≡ madeAs 0 (cycles p) (withTable r (1 + size p))
-      → table′ ≡ drawn p 1 1 (zeros mostWords) ++ drop mostWords table → P)
+      → (¬ (start ≡ 0) → a ≡ madeAs start 0 (x .state) → y .table ≡ x .table → P)
+      → ((i : ℕ) → isOneOf i walkRefusals ≡ true → a ≡ madeAs i 0 (x .state) → y .table ≡ zeros mostWords ++ drop mostWords (x .table) → P)
+      → ((p : Walk) (z : View) → o ≡ ended p z → Ready x scratch → a ≡ madeAs 0 (cycles p) (withTable (x .state) (1 + size p))
+      → y .table ≡ drawn p 1 1 (zeros mostWords) ++ drop mostWords (x .table) → P)
       → P
   by-case P f g h = by-start (eqb start 0) refl
     where
-      by-walk : Ready r mem table scratch → (q : Outcome View) → o ≡ q → Numbered q → a ≡ answerOf r q → table′ ≡ drawnBy q ++ drop mostWords table → P
+      by-walk : Ready x scratch → (q : Outcome View) → o ≡ q → Numbered q → a ≡ answerOf (x .state) q → y .table ≡ drawnBy q ++ drop mostWords (x .table) → P
       by-walk y (refused i) e n p q = g i n p q
       by-walk y (ended w z) e n p q = h w z e y p q
 
       by-start : (b : Bool) → eqb start 0 ≡ b → P
-      by-start true e = by-walk (ready r mem table scratch (eqb-true start 0 e)) o refl (numbered r limit mem) (told true e .0) (told true e .1)
+      by-start true e = by-walk (ready x scratch (eqb-true start 0 e)) o refl (numbered x limit) (told true e .0) (told true e .1)
       by-start false e = f (eqb-false start 0 e) (told false e .0) (told false e .1)
 
   -- what holds of every accepted outcome holds of what the call leaves
-  accepted : (P : Made → List ℕ → List ℕ → Type 0)
-      → ((p : Walk) (z : View) → o ≡ ended p z → Ready r mem table scratch
-      → P (madeAs 0 (cycles p) (withTable r (1 + size p))) mem (drawn p 1 1 (zeros mostWords) ++ drop mostWords table))
-      → a .refusal ≡ 0 → P a mem′ table′
+  accepted : (P : ℕ → Machine → Type 0) → ((p : Walk) (z : View) → o ≡ ended p z → Ready x scratch → P (cycles p) (finished x p)) → n ≡ 0 → P c y
   accepted P h ok =
-      by-case (P a mem′ table′)
-      (λ n e t. absurd (n (sym (ap (λ (x : Made). x .refusal) e) ∙ ok)))
-      (λ i n e t. absurd (listed i n (sym (ap (λ (x : Made). x .refusal) e) ∙ ok)))
-      (λ p z e y q t.
-      subst (λ (x : Made). P x mem′ table′) (sym q)
-      (subst (λ (x : List ℕ). P (answerOf r (ended p z)) x table′) (sym (m .memory))
-      (subst (λ (x : List ℕ). P (answerOf r (ended p z)) mem x) (sym t) (h p z e y))))
+      by-case (P c y)
+      (λ k e t. absurd (k (sym (ap (λ (b : Made). b .refusal) e) ∙ ok)))
+      (λ i k e t. absurd (listed i k (sym (ap (λ (b : Made). b .refusal) e) ∙ ok)))
+      (λ p z e g q t.
+      let left : y ≡ finished x p = λ j. machineOf (q j .state) (m .memory j) (t j) in
+      subst₂ P (sym (ap (λ (b : Made). b .cycles) q)) (sym left) (h p z e g))
 
-  choices : a .refusal ≡ 0 → EveryChoice a mem′ table′
-  choices = accepted EveryChoice λ p z e g. every r limit mem table p z e (g .code) (g .words) (g .wait)
+  choices : n ≡ 0 → EveryChoice c y
+  choices = accepted EveryChoice λ p z e g. every x limit p z e (g .code) (g .words) (g .wait)
 
-  paired : a .refusal ≡ 0 → (v : ℕ) → 0 < v → v ≤ a .state .n → checkNodeOf (a .state) v mem′ table′ ≡ 0
+  paired : n ≡ 0 → (v : ℕ) → 0 < v → v ≤ y .state .n → checkNodeOf y v ≡ 0
   paired =
-      accepted (λ a mem table. (v : ℕ) → 0 < v → v ≤ a .state .n → checkNodeOf (a .state) v mem table ≡ 0) λ p z e g v h k.
-      node-passes (withTable r (1 + size p)) mem _ v (right-sizes r limit mem table p z e (g .code) (g .words) (g .wait)) h k
-      (linked r limit mem table p z e (g .code) (g .words) (g .wait) v h k)
+      accepted (λ c y. (v : ℕ) → 0 < v → v ≤ y .state .n → checkNodeOf y v ≡ 0) λ p z e g v h k.
+      node-passes (finished x p) v (right-sizes x limit p z e (g .code) (g .words) (g .wait)) h k
+      (linked x limit p z e (g .code) (g .words) (g .wait) v h k)
 
-  checked : a .refusal ≡ 0 → checkOf (a .state) mem′ table′ .refusal ≡ 8 → ⊥
+  checked : n ≡ 0 → checkOf y .refusal ≡ 8 → ⊥
   checked =
-      accepted (λ a mem table. checkOf (a .state) mem table .refusal ≡ 8 → ⊥) λ p z e g.
-      check-passes (withTable r (1 + size p)) mem _ (linked r limit mem table p z e (g .code) (g .words) (g .wait))
+      accepted (λ c y. checkOf y .refusal ≡ 8 → ⊥) λ p z e g. check-passes (finished x p) (linked x limit p z e (g .code) (g .words) (g .wait))
 
-  empty : a .refusal ≡ 0 → (i : ℕ) → tableWords (a .state .n) ≤ i → i < mostWords → getD table′ i 0 ≡ 0
+  empty : n ≡ 0 → (i : ℕ) → tableWords (y .state .n) ≤ i → i < mostWords → getD (y .table) i 0 ≡ 0
   empty =
-      accepted (λ a mem table. (i : ℕ) → tableWords (a .state .n) ≤ i → i < mostWords → getD table i 0 ≡ 0) λ p z e g.
-      behind r limit mem table p z e (g .code) (g .words) (g .wait)
+      accepted (λ c y. (i : ℕ) → tableWords (y .state .n) ≤ i → i < mostWords → getD (y .table) i 0 ≡ 0) λ p z e g.
+      behind x limit p z e (g .code) (g .words) (g .wait)
 
   -- ---- refused
 
-  numbers : isOneOf (a .refusal) (0 ∷ 10 ∷ 22 ∷ walkRefusals) ≡ true
+  numbers : isOneOf (n) (0 ∷ 10 ∷ 22 ∷ walkRefusals) ≡ true
   numbers =
-      by-case (isOneOf (a .refusal) (0 ∷ 10 ∷ 22 ∷ walkRefusals) ≡ true)
-      (λ n e t. from start (ap (λ (x : Made). x .refusal) e) (at-once (wrongSizes r mem table) (canBegin r mem table scratch)))
-      (λ i n e t. from i (ap (λ (x : Made). x .refusal) e) (rw n (any (eqb i 0) (eqb i 10) (eqb i 22))))
-      (λ p z e y q t. from 0 (ap (λ (x : Made). x .refusal) q) refl)
+      by-case (isOneOf (n) (0 ∷ 10 ∷ 22 ∷ walkRefusals) ≡ true)
+      (λ k e t. from start (ap (λ (b : Made). b .refusal) e) (at-once (wrongSizes x) (canBegin x scratch)))
+      (λ i k e t. from i (ap (λ (b : Made). b .refusal) e) (rw k (any (eqb i 0) (eqb i 10) (eqb i 22))))
+      (λ p z e y q t. from 0 (ap (λ (b : Made). b .refusal) q) refl)
     where
-      from : (i : ℕ) → a .refusal ≡ i → isOneOf i (0 ∷ 10 ∷ 22 ∷ walkRefusals) ≡ true → isOneOf (a .refusal) (0 ∷ 10 ∷ 22 ∷ walkRefusals) ≡ true
+      from : (i : ℕ) → n ≡ i → isOneOf i (0 ∷ 10 ∷ 22 ∷ walkRefusals) ≡ true → isOneOf (n) (0 ∷ 10 ∷ 22 ∷ walkRefusals) ≡ true
       from i e h = subst (λ (j : ℕ). isOneOf j (0 ∷ 10 ∷ 22 ∷ walkRefusals) ≡ true) (sym e) h
 
       at-once : (x y : Bool) → isOneOf (pick x 10 (pick y 0 22)) (0 ∷ 10 ∷ 22 ∷ walkRefusals) ≡ true
@@ -266,36 +269,36 @@ module _ {r : Record} {limit : ℕ} {mem table scratch : List ℕ} {a : Made} {m
       any false false true = refl
       any false false false = refl
 
-  given : ¬ (a .refusal ≡ 0) → a ≡ madeAs (a .refusal) 0 r
-  given c =
-      by-case (a ≡ madeAs (a .refusal) 0 r) (λ n e t. same start e) (λ i n e t. same i e)
-      (λ p z e y q t. absurd (c (ap (λ (x : Made). x .refusal) q)))
+  given : ¬ (n ≡ 0) → (c ≡ 0) × (y .state ≡ x .state)
+  given k =
+      by-case ((c ≡ 0) × (y .state ≡ x .state)) (λ n e t. same start e) (λ i n e t. same i e)
+      (λ p z e g q t. absurd (k (ap (λ (b : Made). b .refusal) q)))
     where
-      same : (i : ℕ) → a ≡ madeAs i 0 r → a ≡ madeAs (a .refusal) 0 r
-      same i e = e ∙ ap (λ (j : ℕ). madeAs j 0 r) (sym (ap (λ (x : Made). x .refusal) e))
+      same : (i : ℕ) → a ≡ madeAs i 0 (x .state) → (c ≡ 0) × (y .state ≡ x .state)
+      same i e = (ap (λ (b : Made). b .cycles) e, ap (λ (b : Made). b .state) e)
 
   -- 10 and 22 are no refusals of the walk, and not 0
-  unwritten : (a .refusal ≡ 10) ⊎ (a .refusal ≡ 22) → (table′ ≡ table) × (scratch′ ≡ scratch)
-  unwritten c =
-      by-case ((table′ ≡ table) × (scratch′ ≡ scratch)) (λ n e t. (t, m .untouched n))
-      (λ i n e t. absurd (false≢true (no-walk c ∙ subst (λ (j : ℕ). isOneOf j walkRefusals ≡ true) (sym (ap (λ (x : Made). x .refusal) e)) n)))
-      (λ p z e y q t. absurd (not-zero c (ap (λ (x : Made). x .refusal) q)))
+  unwritten : (n ≡ 10) ⊎ (n ≡ 22) → (y .table ≡ x .table) × (scratch′ ≡ scratch)
+  unwritten f =
+      by-case ((y .table ≡ x .table) × (scratch′ ≡ scratch)) (λ k e t. (t, m .untouched k))
+      (λ i k e t. absurd (false≢true (no-walk f ∙ subst (λ (j : ℕ). isOneOf j walkRefusals ≡ true) (sym (ap (λ (b : Made). b .refusal) e)) k)))
+      (λ p z e y q t. absurd (not-zero f (ap (λ (b : Made). b .refusal) q)))
     where
-      no-walk : (a .refusal ≡ 10) ⊎ (a .refusal ≡ 22) → false ≡ isOneOf (a .refusal) walkRefusals
+      no-walk : (n ≡ 10) ⊎ (n ≡ 22) → false ≡ isOneOf (n) walkRefusals
       no-walk (inl e) = rw e
       no-walk (inr e) = rw e
 
-      not-zero : (a .refusal ≡ 10) ⊎ (a .refusal ≡ 22) → a .refusal ≡ 0 → ⊥
+      not-zero : (n ≡ 10) ⊎ (n ≡ 22) → n ≡ 0 → ⊥
       not-zero (inl e) z = omega (arith, e, z)
       not-zero (inr e) z = omega (arith, e, z)
 
-  cleared : isOneOf (a .refusal) walkRefusals ≡ true → table′ ≡ zeros mostWords ++ drop mostWords table
-  cleared c =
-      by-case (table′ ≡ zeros mostWords ++ drop mostWords table)
-      (λ n e t. absurd (at-once (wrongSizes r mem table) (canBegin r mem table scratch) n
-      (subst (λ (j : ℕ). isOneOf j walkRefusals ≡ true) (ap (λ (x : Made). x .refusal) e) c)))
+  cleared : isOneOf (n) walkRefusals ≡ true → y .table ≡ zeros mostWords ++ drop mostWords (x .table)
+  cleared f =
+      by-case (y .table ≡ zeros mostWords ++ drop mostWords (x .table))
+      (λ k e t. absurd (at-once (wrongSizes x) (canBegin x scratch) k
+      (subst (λ (j : ℕ). isOneOf j walkRefusals ≡ true) (ap (λ (b : Made). b .refusal) e) f)))
       (λ i n e t. t)
-      (λ p z e y q t. absurd (listed (a .refusal) c (ap (λ (x : Made). x .refusal) q)))
+      (λ p z e y q t. absurd (listed n f (ap (λ (b : Made). b .refusal) q)))
     where
       at-once : (x y : Bool) → ¬ (number x y ≡ 0) → isOneOf (number x y) walkRefusals ≡ true → ⊥
       at-once true y n h = false≢true h
@@ -335,9 +338,9 @@ pub idle-turns : IdleTurns
 unfolding idleOp
 idle-turns =
     record {
-      other = λ r mem table last gate.
-          let t = nodes (statusOf r) table in
-          let s = viewOf r mem in
+      other = λ x last gate.
+          let t = stateOf x .links in
+          let s = viewOf x in
           ap (λ (y : View). judged t Forward false (pc s) y (landed Forward y (idled t y))) (from-is s)
           ∙ (rw gate refl
           ∙ (sym (ap (λ (y : View). judged t Forward false (pc s) y (landed Forward y (executed t Forward y))) (from-is s))

@@ -9,10 +9,8 @@ use native.Mathlib.Decide.{ℕ-discrete}
 use lib.ListN.{length, getD, take}
 use lib.Seq.{getD-take}
 use Rattle.step.specs.Table.{fc, lc, cf, cl, nx, pr, w, link}
-use Rattle.step.specs.View.{nodes}
 use Rattle.step.proofs.Views.{link-node}
-use Rattle.machine.specs.declared.Record.{Record}
-use Rattle.machine.specs.Calls.{statusOf, wrongSizes}
+use Rattle.machine.specs.Machine.{Machine, stateOf, wrongSizes}
 use Rattle.image.specs.declared.Checked.{Checked}
 use Rattle.image.specs.Check.{returns, childrenReturn, unpaired, checkOf, checkNodeOf}
 use Rattle.image.specs.CheckClaims.{Paired}
@@ -249,13 +247,12 @@ made-zeros p t i h l z k =
     subst (λ (j : ℕ). getD (drawn p 1 1 t) j 0 ≡ 0) (omega arith)
     (ready 511 p 1 1 t (omega arith) (omega arith) h l start .above (i / 9 + 1) (i % 9) (omega arith) (omega arith))
 
-pub node-passes : (r : Record) (mem table : List ℕ) (v : ℕ) → wrongSizes r mem table ≡ false → 0 < v → v ≤ r .n
-    → unpaired (nodes (statusOf r) table) (r .n) v ≡ false → checkNodeOf r v mem table ≡ 0
-node-passes r mem table v o p q h = links-decide r v mem table o p q ∙ rw h
+pub node-passes : (x : Machine) (v : ℕ) → wrongSizes x ≡ false → 0 < v → v ≤ x .state .n → unpaired (stateOf x .links) (x .state .n) v ≡ false
+    → checkNodeOf x v ≡ 0
+node-passes x v o p q h = links-decide x v o p q ∙ rw h
 
-pub check-passes : (r : Record) (mem table : List ℕ) → ((v : ℕ) → 0 < v → v ≤ r .n → unpaired (nodes (statusOf r) table) (r .n) v ≡ false)
-    → checkOf r mem table .refusal ≡ 8 → ⊥
-check-passes r mem table h e =
-    let o = before-nodes .passed r mem table .0 (omega (arith, e)) in
-    let z = node-by-node .good r mem table o .1 (λ v p q. links-decide r v mem table (o .sizes) p q ∙ rw (h v p q)) in
+pub check-passes : (x : Machine) → ((v : ℕ) → 0 < v → v ≤ x .state .n → unpaired (stateOf x .links) (x .state .n) v ≡ false) → checkOf x .refusal ≡ 8 → ⊥
+check-passes x h e =
+    let o = before-nodes .passed x .0 (omega (arith, e)) in
+    let z = node-by-node .good x o .1 (λ v p q. links-decide x v (o .sizes) p q ∙ rw (h v p q)) in
     omega (arith, e, ap (λ (c : Checked). c .refusal) z)

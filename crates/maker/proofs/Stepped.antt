@@ -23,7 +23,8 @@ use Rattle.step.specs.Step.{refuse, attempt, performed, number}
 use Rattle.machine.specs.Turn.{pc, from, to, landed, judged, executed, planned, turned}
 use Rattle.machine.specs.declared.Record.{Record}
 use Rattle.machine.specs.declared.Turned.{Turned}
-use Rattle.machine.specs.Calls.{recordAt, turnOf, memoryOf, TurnPromise}
+use Rattle.machine.specs.Machine.{recordAt, Machine, machineOf}
+use Rattle.machine.specs.Calls.{refusal, next, TurnPromise}
 use Rattle.maker.specs.declared.Kind.{Kind}
 use Rattle.maker.specs.declared.Kind.the-variants.{Plain, Opens, Closes}
 use Rattle.maker.specs.declared.Seen.{Seen}
@@ -127,13 +128,13 @@ module _ (k m : ℕ) (l z : List ℕ) (sized : Sized k m (length z)) (simple : S
       × (l′ ≡ turned Forward (planned [] Forward false (viewAt k m l y)) (viewAt k m l y) .regs)
       × (z′ ≡ turned Forward (planned [] Forward false (viewAt k m l y)) (viewAt k m l y) .memory ++ drop m z)
 
-  pub turns : (r : Record) (t : List ℕ) (a : Turned) (z′ : List ℕ) → r ≡ recordAt (statusAt k m) l (pos 0) → TurnPromise Forward r z t a z′
+  pub turns : (r : Record) (t : List ℕ) (a : Turned) (z′ : List ℕ) → r ≡ recordAt (statusAt k m) l (pos 0) → TurnPromise Forward (machineOf r z t) (a .refusal) (machineOf (a .state) z′ t)
       → Turns (a .refusal) (a .state .regs) z′
   turns r t a z′ e f =
       let r₀ : Record = recordAt (statusAt k m) l (pos 0) in
-      let p : a ≡ turnOf Forward r₀ z t = f .answer ∙ ap (λ (r : Record). turnOf Forward r z t) e in
-      let q : z′ ≡ memoryOf Forward r₀ z t = f .memory ∙ ap (λ (r : Record). memoryOf Forward r z t) e in
-      let g : Told (take m z) (a .refusal) (a .state .regs) z′ = (ap (λ (a : Turned). a .refusal) p, ap (λ (a : Turned). a .state .regs) p, q) in
+      let n : a .refusal ≡ refusal Forward (machineOf r₀ z t) = f .refusal ∙ ap (λ (r : Record). refusal Forward (machineOf r z t)) e in
+      let p : machineOf (a .state) z′ t ≡ next Forward (machineOf r₀ z t) = f .left ∙ ap (λ (r : Record). next Forward (machineOf r z t)) e in
+      let g : Told (take m z) (a .refusal) (a .state .regs) z′ = (n, ap (λ (y : Machine). y .state .regs) p, ap (λ (y : Machine). y .memory) p) in
       let h : Told z (a .refusal) (a .state .regs) z′ = subst (λ (y : List ℕ). Told y (a .refusal) (a .state .regs) z′) (whole m z (sized .3)) g in
       turn-is (a .refusal) (a .state .regs) z′ (h .0) (h .1)
       (h .2

@@ -4,14 +4,14 @@ use mathlib.Core.Path.{_≡_}
 use mathlib.Core.Bool.{Bool, false, _&&_}
 use mathlib.Core.List.{List, _++_}
 use lib.Dec.{eqb, leb}
-use lib.ListN.{length, getD, take, drop, replicate}
+use lib.ListN.{length, getD, drop, replicate}
 use Rattle.word.specs.Word.{pick}
 use Rattle.step.specs.Table.{tableWords}
 use Rattle.step.specs.Sizes.{maxNodes}
 use Rattle.step.specs.View.{View}
 use Rattle.machine.specs.Turn.{starts}
 use Rattle.machine.specs.declared.Record.{Record}
-use Rattle.machine.specs.Calls.{statusOf, wrongSizes}
+use Rattle.machine.specs.Machine.{statusOf, Machine, stateOf, wrongSizes}
 use Rattle.maker.specs.declared.Made.{Made}
 use Rattle.maker.specs.Walk.{size, cycles, drawn}
 use Rattle.maker.specs.Making.{Outcome, branchAt}
@@ -28,17 +28,18 @@ scratchWords r = 16 * r .m
 
 -- ---- 22: pc at start, no table yet, no wait, and the table and the scratch long enough
 
-abbrev pub canBegin : Record → List ℕ → List ℕ → List ℕ → Bool
-canBegin r mem table scratch =
-    starts (statusOf r) (take (r .m) mem) (getD (r .regs) 0 0)
+abbrev pub canBegin : Machine → List ℕ → Bool
+canBegin x scratch =
+    let r = x .state in
+    starts (statusOf r) (stateOf x .words) (getD (r .regs) 0 0)
     && (eqb (r .n) 0
     && (eqb (r .qifw) 0
-    && (leb mostWords (length table)
+    && (leb mostWords (length (x .table))
     && leb (scratchWords r) (length scratch))))
 
 -- 10 or 22, else 0
-abbrev pub refusalOf : Record → List ℕ → List ℕ → List ℕ → ℕ
-refusalOf r mem table scratch = pick (wrongSizes r mem table) 10 (pick (canBegin r mem table scratch) 0 22)
+abbrev pub refusalOf : Machine → List ℕ → ℕ
+refusalOf x scratch = pick (wrongSizes x) 10 (pick (canBegin x scratch) 0 22)
 
 -- ---- the walk: from node 1, the only one made, with no cycle used and a nesting of eight
 
@@ -46,8 +47,8 @@ refusalOf r mem table scratch = pick (wrongSizes r mem table) 10 (pick (canBegin
 abbrev pub walkOver : Record → ℕ → List ℕ → Outcome View
 walkOver r limit words = branchAt machine limit 8 false 1 0 (viewAt (r .k) (r .m) (r .regs) words)
 
-unfoldable pub outcomeOf : Record → ℕ → List ℕ → Outcome View
-outcomeOf r limit mem = walkOver r limit (take (r .m) mem)
+unfoldable pub outcomeOf : Machine → ℕ → Outcome View
+outcomeOf x limit = walkOver (x .state) limit (stateOf x .words)
 
 -- ---- the answer
 
@@ -62,9 +63,10 @@ abbrev pub answerOf : Record → Outcome View → Made
 answerOf r (refused i) = madeAs i 0 r
 answerOf r (ended p z) = madeAs 0 (cycles p) (withTable r (1 + size p))
 
-abbrev pub makeOf : Record → ℕ → List ℕ → List ℕ → List ℕ → Made
-makeOf r limit mem table scratch =
-    pick (eqb (refusalOf r mem table scratch) 0) (answerOf r (outcomeOf r limit mem)) (madeAs (refusalOf r mem table scratch) 0 r)
+abbrev pub makeOf : Machine → ℕ → List ℕ → Made
+makeOf x limit scratch =
+    let n = refusalOf x scratch in
+    pick (eqb n 0) (answerOf (x .state) (outcomeOf x limit)) (madeAs n 0 (x .state))
 
 -- ---- the table at exit: the nodes and then zeros, or zeros alone; behind them, and after 10 and 22, as it was
 
@@ -72,16 +74,17 @@ abbrev pub drawnBy : Outcome View → List ℕ
 drawnBy (refused i) = replicate mostWords 0
 drawnBy (ended p z) = drawn p 1 1 (replicate mostWords 0)
 
-abbrev pub tableAfter : Record → ℕ → List ℕ → List ℕ → List ℕ → List ℕ
-tableAfter r limit mem table scratch =
-    pick (eqb (refusalOf r mem table scratch) 0) (drawnBy (outcomeOf r limit mem) ++ drop mostWords table) table
+abbrev pub tableAfter : Machine → ℕ → List ℕ → List ℕ
+tableAfter x limit scratch =
+    pick (eqb (refusalOf x scratch) 0) (drawnBy (outcomeOf x limit) ++ drop mostWords (x .table)) (x .table)
 
--- ---- what the call promises of its answer a and of the lent words at exit
+-- ---- what the call promises of its refusal n and its cycles c, of the machine y that its record and the lent words at exit are,
+-- and of the scratch
 
-pub record MakePromise (r : Record) (limit : ℕ) (mem table scratch : List ℕ) (a : Made) (mem′ table′ scratch′ : List ℕ) : Type 0 where
-  pub answer : a ≡ makeOf r limit mem table scratch
-  pub memory : mem′ ≡ mem
-  pub nodes : table′ ≡ tableAfter r limit mem table scratch
+pub record MakePromise (x : Machine) (limit : ℕ) (scratch : List ℕ) (n c : ℕ) (y : Machine) (scratch′ : List ℕ) : Type 0 where
+  pub answer : madeAs n c (y .state) ≡ makeOf x limit scratch
+  pub memory : y .memory ≡ x .memory
+  pub nodes : y .table ≡ tableAfter x limit scratch
   -- behind its first 16 M words the scratch is as it was, and all of it is after 10 and 22
-  pub behind : drop (scratchWords r) scratch′ ≡ drop (scratchWords r) scratch
-  pub untouched : (refusalOf r mem table scratch ≡ 0 → ⊥) → scratch′ ≡ scratch
+  pub behind : drop (scratchWords (x .state)) scratch′ ≡ drop (scratchWords (x .state)) scratch
+  pub untouched : (refusalOf x scratch ≡ 0 → ⊥) → scratch′ ≡ scratch

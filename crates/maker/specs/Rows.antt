@@ -7,6 +7,7 @@ use lib.IntN.{pos}
 use lib.ListN.{length, take, replicate}
 use Rattle.step.specs.Table.{tableWords}
 use Rattle.machine.specs.declared.Record.{Record}
+use Rattle.machine.specs.Machine.{machineOf}
 use Rattle.maker.specs.Make.{makeOf, tableAfter}
 
 -- the record and the memory, the limit, the words of table and scratch that are lent, all of them 9, and what the call shows
@@ -24,8 +25,9 @@ nines n = replicate n 9
 -- refusal, cycles, N and node; then the words of the nodes and of one node behind them
 abbrev pub observed : Row → List ℕ
 observed x =
-    let a = makeOf (x .state) (x .limit) (x .memory) (nines (x .table)) (nines (x .scratch)) in
-    let t = tableAfter (x .state) (x .limit) (x .memory) (nines (x .table)) (nines (x .scratch)) in
+    let lent = machineOf (x .state) (x .memory) (nines (x .table)) in
+    let a = makeOf lent (x .limit) (nines (x .scratch)) in
+    let t = tableAfter lent (x .limit) (nines (x .scratch)) in
     a .refusal ∷ a .cycles ∷ a .state .n ∷ a .state .qifv ∷ take (tableWords (a .state .n + 1)) t
 
 -- The statement: every row shows what it says

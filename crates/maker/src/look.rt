@@ -3,7 +3,7 @@ ghost use mathlib.Core.Path.{_≡_};
 ghost use lib.ListN.{length, getD};
 ghost use Rattle.qins.specs.Decode.{decode};
 ghost use Rattle.qins.specs.Op.{Op};
-ghost use Rattle.machine.specs.Calls.{recordAt};
+ghost use Rattle.machine.specs.Machine.{recordAt};
 ghost use Rattle.maker.specs.declared.Kind.{Kind};
 ghost use Rattle.maker.specs.declared.Seen.{Seen};
 ghost use Rattle.maker.specs.Idle.{isGate, idleOp, kindOf, coinOf, isBeforeStart, plain, lookAt};

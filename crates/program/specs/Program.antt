@@ -8,11 +8,10 @@ use mathlib.Core.List.{List}
 use lib.Dec.{eqb}
 use Rattle.word.specs.Word.{pick}
 use Rattle.step.specs.declared.Direction.the-variants.{Forward}
-use Rattle.machine.specs.Calls.{zeros}
+use Rattle.machine.specs.Machine.{zeros, Machine, machineOf}
 use Rattle.machine.specs.Batch.{BatchPromise}
 use Rattle.machine.specs.declared.Batch.{Batch}
 use Rattle.image.specs.Load.{LoadPromise}
-use Rattle.image.specs.declared.Loaded.{Loaded}
 
 abbrev pub limit : ℕ
 limit = 1000000
@@ -21,14 +20,13 @@ abbrev pub noTurns : Batch
 noTurns = record { turns = 0; refusal = 0; state = zeros }
 
 -- What the program promises of a file and the lent words: load's refusal w, the turns a, and the lent words at exit.
--- A refused load is all that is done; after an accepted one the loaded state is turned, on what load left.
+-- A refused load is all that is done; after an accepted one the loaded machine is turned.
 pub record ProgramPromise (file mem table : List ℕ) (w : ℕ) (a : Batch) (mem′ table′ : List ℕ) : Type 0 where
-  pub loaded : Loaded
-  pub between : List ℕ
-  pub load : LoadPromise file mem table loaded between table′
-  pub refusal : w ≡ loaded .refusal
-  pub refused : w ≢ 0 → (a ≡ noTurns) × (mem′ ≡ between)
-  pub turned : w ≡ 0 → BatchPromise Forward limit (loaded .state) between table′ a mem′
+  pub loaded : Machine
+  pub load : LoadPromise file mem table w loaded
+  pub links : table′ ≡ loaded .table
+  pub refused : w ≢ 0 → (a ≡ noTurns) × (mem′ ≡ loaded .memory)
+  pub turned : w ≡ 0 → BatchPromise Forward limit loaded (a .turns) (a .refusal) (machineOf (a .state) mem′ table′)
 
 -- So none is left unmade but for a refusal. Proved in proofs/Program.
 abbrev pub NoneLeft : Type 0

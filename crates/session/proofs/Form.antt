@@ -29,6 +29,7 @@ use denote.Triple.End.{Fins, Outs, all}
 use denote.Triple.Spec.{tripleOf}
 use denote.Triple.Statement.{Contract}
 use denote.Exit.{yes}
+use Rattle.machine.specs.Machine.{Machine, machineOf}
 use Rattle.machine.specs.declared.Record.{Record}
 use Rattle.machine.proofs.Record as R
 use Rattle.machine.proofs.Record.Laws as R′
@@ -39,7 +40,7 @@ use Rattle.machine.proofs.Batch.Laws as S′
 use Rattle.wheel.proofs.Wheeled as G
 use Rattle.wheel.proofs.Wheeled.Laws as G′
 use Rattle.session.specs.declared.Bench.{Bench}
-use Rattle.session.specs.Bench.{benchOf, turnedOn, crankedOn, sampledOn}
+use Rattle.session.specs.Bench.{benchOf, sampledOn}
 use Rattle.session.proofs.Cranked as K
 use Rattle.session.proofs.Cranked.Laws as K′
 use Rattle.session.proofs.Sampled as P
@@ -246,8 +247,8 @@ is-result samples t vs is =
 
 -- and back: with the bench that the call leaves, the callee's answer
 abbrev pub together : (F : Form) → Bench → row F .Denot → Answer F
-together turn h r = turnedOn h r
-together batch h r = crankedOn h r
+together turn h r = record { refusal = r; state = h .state }
+together batch h r = record { turns = r .turns; refusal = r .refusal; state = h .state }
 together samples h r = sampledOn h r
 
 pub together-is : (F : Form) (t : Answer F) → t ≡ together F (benchOf (state F t)) (result F t)
@@ -271,9 +272,9 @@ result-of samples = aggregate (of-answer samples 0 ∷ of-answer samples 1 ∷ o
 
 -- ---- the callee's contract
 
--- what it says: of what is handed on; of the record, memory and table that it takes; of its answer and of the memory at exit
+-- what it says: of what is handed on; of the machine that it takes; of its answer and of the memory at exit
 abbrev Says : Type 0 → Type 1
-Says X = Record → List ℕ → List ℕ → X → List ℕ → Type 0
+Says X = Machine → X → List ℕ → Type 0
 
 abbrev pub CalleeSays : Form → Type 1
 CalleeSays turn = Says (Answer turn)
@@ -282,9 +283,9 @@ CalleeSays samples = ℕ → List ℕ → Says (Answer samples)
 
 -- said of the parameters after the first, at entry and at exit, of the record r and of the answer a
 abbrev pub said : (k : ℕ) (F : Form) → CalleeSays F → (κs : Lfts (after k (lifetimes F))) → Denots (typesAt (slots k F) κs) → Outs κs (slots k F) (all yes (slots k F)) → Record → Answer F → Type 0
-said k turn Said κs z e r a = Said r (now (z .0)) (now (z .1 .0)) a (now (e .0))
-said k batch Said κs z e r a = Said (z .0) r (now (z .1 .0)) (now (z .1 .1 .0)) a (now (e .1 .0))
-said k samples Said κs z e r a = Said (z .0) (now (z .1 .0)) r (now (z .1 .1 .0)) (now (z .1 .1 .1 .0)) a (now (e .1 .1 .0))
+said k turn Said κs z e r a = Said (machineOf r (now (z .0)) (now (z .1 .0))) a (now (e .0))
+said k batch Said κs z e r a = Said (z .0) (machineOf r (now (z .1 .0)) (now (z .1 .1 .0))) a (now (e .1 .0))
+said k samples Said κs z e r a = Said (z .0) (now (z .1 .0)) (machineOf r (now (z .1 .1 .0)) (now (z .1 .1 .1 .0))) a (now (e .1 .1 .0))
 
 abbrev pub callee : Form → Ended
 callee F = shape 0 F (plain (λ _. R.the-row)) (answer-row F)

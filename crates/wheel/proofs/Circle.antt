@@ -2,7 +2,7 @@
 use Prim.Native.Nat.{ℕ, zero, suc, _+_, _-_, _<_, _≤_}
 use mathlib.Core.Path.{_≡_, refl}
 use mathlib.Core.Bool.{Bool, true, false}
-use mathlib.Core.List.{List, [], _∷_}
+use mathlib.Core.List.{[], _∷_}
 use native.Mathlib.Omega.{arith}
 use lib.Dec.{ltb}
 use borrow.Author.Tests.{lt-ltb}
@@ -10,22 +10,22 @@ use Rattle.word.specs.Word.{pick, subWord}
 use Rattle.step.specs.declared.Direction.{Direction}
 use Rattle.step.specs.declared.Direction.the-variants.{Forward, Back}
 use Rattle.step.specs.View.{byWay}
+use Rattle.machine.specs.Machine.{Machine}
 use Rattle.machine.specs.Calls.{turnOf, memoryOf, accepted}
-use Rattle.machine.specs.declared.Record.{Record}
 use Rattle.machine.specs.declared.Turned.{Turned}
-use Rattle.wheel.specs.Wheel.{Wheel, wheelOf, started, ended, taken, run}
+use Rattle.wheel.specs.Wheel.{Wheel, wheelOf, wheelOn, started, ended, taken, run}
 use Rattle.wheel.specs.Claims.{Rests, Ends, Circle}
 
 -- the counts of one turn, from 0 on
-module _ (d : Direction) (s : ℕ) (r : Record) (mem table : List ℕ) where
+module _ (d : Direction) (s : ℕ) (x : Machine) where
   abbrev t : Turned
-  t = turnOf d r mem table
+  t = turnOf d x
 
   abbrev n : ℕ
   n = accepted (t .refusal)
 
   abbrev counts : ℕ → ℕ → ℕ → Wheel
-  counts f b c = wheelOf (record { forward = f; back = b; refused = c; last = s; refusal = 0; state = t .state }) (memoryOf d r mem table)
+  counts f b c = wheelOf (record { forward = f; back = b; refused = c; last = s; refusal = 0; state = t .state }) (memoryOf d x) (x .table)
 
   zero-add : (m : ℕ) → 0 + m ≡ m
   zero-add m = omega arith
@@ -35,26 +35,26 @@ module _ (d : Direction) (s : ℕ) (r : Record) (mem table : List ℕ) where
 
 still : (s : ℕ) → s ≤ 3 → Rests s
 unfolding subWord taken run
-still zero h = λ r mem table. refl
-still (suc zero) h = λ r mem table. refl
-still (suc (suc zero)) h = λ r mem table. refl
-still (suc (suc (suc zero))) h = λ r mem table. refl
+still zero h = λ x. refl
+still (suc zero) h = λ x. refl
+still (suc (suc zero)) h = λ x. refl
+still (suc (suc (suc zero))) h = λ x. refl
 still (suc (suc (suc (suc s)))) h = absurd (omega arith)
 
 above : (p s : ℕ) → 3 < s → Ends 20 p s
 unfolding taken run
-above p s h r mem table = go (ltb 3 p)
+above p s h x = go (ltb 3 p)
   where
     first : Wheel
-    first = wheelOf (started p r) mem
+    first = wheelOn x (started p (x .state))
 
     over : Wheel
-    over = wheelOf (ended 20 (started p r)) mem
+    over = wheelOn x (ended 20 (started p (x .state)))
 
-    ran : run table (s ∷ []) first ≡ over
+    ran : run (s ∷ []) first ≡ over
     ran = rw (lt-ltb 3 s h) refl
 
-    go : (b : Bool) → pick b over (run table (s ∷ []) first) ≡ over
+    go : (b : Bool) → pick b over (run (s ∷ []) first) ≡ over
     go true = refl
     go false = ran
 
@@ -64,6 +64,6 @@ circle =
     record {
       cycle = ((moves Forward 1, moves Back 0), (moves Forward 3, moves Back 1), (moves Forward 2, moves Back 3), (moves Forward 0, moves Back 2));
       still = still;
-      away = (λ r mem table. refl, λ r mem table. refl, λ r mem table. refl, λ r mem table. refl);
+      away = (λ x. refl, λ x. refl, λ x. refl, λ x. refl);
       above = above;
     }

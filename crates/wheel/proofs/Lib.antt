@@ -1,4 +1,3 @@
-pub mod Promise
 pub mod Turns
 pub mod Taken
 pub mod Loop

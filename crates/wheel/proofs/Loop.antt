@@ -11,70 +11,75 @@ use lib.ListN.{length, getD, drop, drop-of-length-le}
 use lib.Seq.{drop-cons}
 use borrow.Author.Tests.{eq-eqb, ne-eqb}
 use Rattle.word.specs.Word.{pick}
-use Rattle.machine.specs.Calls.{machineOf, Bounded}
-use Rattle.machine.specs.declared.Record.{Record}
-use Rattle.wheel.specs.Wheel.{Wheel, wheelOf, started, ended, taken, run, followOf, WheelPromise}
+use Rattle.machine.specs.Machine.{Machine, Bounded}
+use Rattle.wheel.specs.Wheel.{Wheel, wheelOf, wheelOn, machineIn, started, ended, taken, run, followOf, WheelPromise}
 use Rattle.wheel.specs.declared.Wheeled.{Wheeled}
-use Rattle.wheel.proofs.Promise.{promised}
 use Rattle.wheel.proofs.Taken.{made, made-more}
 
 -- the invariant, with the promise of the call, which waits for how the samples end
-pub record Loop (given : ℕ) (samples table : List ℕ) (w₀ : Wheeled) (mem₀ : List ℕ) (w : Wheeled) (mem : List ℕ) (i : ℕ) : Type 0 where
-  pub rest : run table (drop i samples) (wheelOf w mem) ≡ run table samples (wheelOf w₀ mem₀)
+pub record Loop (given : ℕ) (samples : List ℕ) (w₀ w : Wheel) (i : ℕ) : Type 0 where
+  pub rest : run (drop i samples) w ≡ run samples w₀
   pub within : i ≤ length samples
   pub short : length samples < 2 ^ 64
-  pub room : made (wheelOf w mem) ≤ i
-  pub long : length mem ≡ length mem₀
-  pub promise : {a : Wheeled} {mem′ : List ℕ} → wheelOf a mem′ ≡ run table samples (wheelOf w₀ mem₀) → WheelPromise given samples (w₀ .state) mem₀ table a mem′
+  pub room : made w ≤ i
+  pub long : length (w .memory) ≡ length (w₀ .memory)
+  pub promise : {v : Wheel} → v ≡ run samples w₀ → WheelPromise given samples (machineIn w₀) v
 
-module _ {given : ℕ} {samples table : List ℕ} {w₀ : Wheeled} {mem₀ : List ℕ} {w : Wheeled} {mem : List ℕ} {i : ℕ} (inv : Loop given samples table w₀ mem₀ w mem i) where
-  pub done : length samples ≤ i → WheelPromise given samples (w₀ .state) mem₀ table w mem
+module _ {given : ℕ} {samples : List ℕ} {w₀ : Wheel} {w : Wheeled} {mem : List ℕ} {i : ℕ} (inv : Loop given samples w₀ (wheelOf w mem (w₀ .table)) i) where
+  abbrev here : Wheel
+  here = wheelOf w mem (w₀ .table)
+
+  pub done : length samples ≤ i → WheelPromise given samples (machineIn w₀) here
   unfolding run
-  done h = inv .promise (ap (λ (l : List ℕ). run table l (wheelOf w mem)) (sym (drop-of-length-le samples h)) ∙ inv .rest)
+  done h = inv .promise (ap (λ (l : List ℕ). run l here) (sym (drop-of-length-le samples h)) ∙ inv .rest)
 
-  module _ (less : i < length samples) {s : ℕ} {w′ : Wheeled} {mem′ : List ℕ} (at-i : s ≡ getD samples i 0) (took : wheelOf w′ mem′ ≡ taken table s (wheelOf w mem)) where
-    e : wheelOf w′ mem′ ≡ taken table (getD samples i 0) (wheelOf w mem)
-    e = took ∙ ap (λ (b : ℕ). taken table b (wheelOf w mem)) at-i
+  module _ (less : i < length samples) {s : ℕ} {w′ : Wheeled} {mem′ : List ℕ} (at-i : s ≡ getD samples i 0)
+      (took : wheelOf w′ mem′ (w₀ .table) ≡ taken s here) where
+    abbrev there : Wheel
+    there = wheelOf w′ mem′ (w₀ .table)
+
+    e : there ≡ taken (getD samples i 0) here
+    e = took ∙ ap (λ (b : ℕ). taken b here) at-i
 
     -- the sample at i, then the others
-    next : (b : Bool) → eqb (w′ .refusal) 0 ≡ b → pick b (run table (drop (suc i) samples) (wheelOf w′ mem′)) (wheelOf w′ mem′) ≡ run table samples (wheelOf w₀ mem₀)
+    next : (b : Bool) → eqb (w′ .refusal) 0 ≡ b → pick b (run (drop (suc i) samples) there) there ≡ run samples w₀
     unfolding run
     next b q =
-        ap (λ (c : Bool). pick c (run table (drop (suc i) samples) (wheelOf w′ mem′)) (wheelOf w′ mem′)) (sym q)
-        ∙ (ap (λ (u : Wheel). pick (eqb (u .answer .refusal) 0) (run table (drop (suc i) samples) u) u) e
-        ∙ (ap (λ (l : List ℕ). run table l (wheelOf w mem)) (sym (drop-cons samples i 0 less)) ∙ inv .rest))
+        ap (λ (c : Bool). pick c (run (drop (suc i) samples) there) there) (sym q)
+        ∙ (ap (λ (u : Wheel). pick (eqb (u .answer .refusal) 0) (run (drop (suc i) samples) u) u) e
+        ∙ (ap (λ (l : List ℕ). run l here) (sym (drop-cons samples i 0 less)) ∙ inv .rest))
 
-    pub stopped : w′ .refusal ≢ 0 → WheelPromise given samples (w₀ .state) mem₀ table w′ mem′
+    pub stopped : w′ .refusal ≢ 0 → WheelPromise given samples (machineIn w₀) there
     stopped h = inv .promise (next false (ne-eqb (w′ .refusal) 0 h))
 
-    pub again : w′ .refusal ≡ 0 → length mem′ ≡ length mem → Loop given samples table w₀ mem₀ w′ mem′ (i + 1)
+    pub again : w′ .refusal ≡ 0 → length mem′ ≡ length mem → Loop given samples w₀ there (i + 1)
     again z kept =
         record {
-          rest = ap (λ (k : ℕ). run table (drop k samples) (wheelOf w′ mem′)) (add-one i) ∙ next true (eq-eqb (w′ .refusal) 0 z);
+          rest = ap (λ (k : ℕ). run (drop k samples) there) (add-one i) ∙ next true (eq-eqb (w′ .refusal) 0 z);
           within = omega arith;
           short = inv .short;
-          room = subst (λ (u : Wheel). made u ≤ i + 1) (sym e) (omega (arith, made-more table (getD samples i 0) (wheelOf w mem), inv .room));
+          room = subst (λ (u : Wheel). made u ≤ i + 1) (sym e) (omega (arith, made-more (getD samples i 0) here, inv .room));
           long = kept ∙ inv .long;
           promise = inv .promise;
         }
 
 -- ---- the given sample
 
-module _ {given last : ℕ} (samples : List ℕ) (r : Record) (mem table : List ℕ) {n : ℕ} (e : last ≡ given) (f : n ≡ pick (ltb 3 last) 20 0) (g : Bounded (machineOf r mem)) where
+module _ {given last : ℕ} (samples : List ℕ) (x : Machine) {n : ℕ} (e : last ≡ given) (f : n ≡ pick (ltb 3 last) 20 0) (g : Bounded x) where
   abbrev first : Wheeled
-  first = ended n (started last r)
+  first = ended n (started last (x .state))
 
-  ends : {a : Wheeled} {mem′ : List ℕ} → wheelOf a mem′ ≡ followOf last samples r mem table → WheelPromise given samples r mem table a mem′
-  ends {a} {mem′} p = subst (λ (m : ℕ). WheelPromise m samples r mem table a mem′) e (promised g p)
+  ends : {w : Wheel} → w ≡ followOf last samples x → WheelPromise given samples x w
+  ends {w} p = subst (λ (m : ℕ). WheelPromise m samples x w) e (record { left = p; bounds = g })
 
-  pub refused : n ≢ 0 → WheelPromise given samples r mem table first mem
+  pub refused : n ≢ 0 → WheelPromise given samples x (wheelOn x first)
   refused h = go (ltb 3 last) refl
     where
-      go : (b : Bool) → ltb 3 last ≡ b → WheelPromise given samples r mem table first mem
-      go true q = ends (rw q (ap (λ (m : ℕ). wheelOf (ended m (started last r)) mem) (f ∙ ap (λ (b : Bool). pick b 20 0) q)))
+      go : (b : Bool) → ltb 3 last ≡ b → WheelPromise given samples x (wheelOn x first)
+      go true q = ends (rw q (ap (λ (m : ℕ). wheelOn x (ended m (started last (x .state)))) (f ∙ ap (λ (b : Bool). pick b 20 0) q)))
       go false q = absurd (h (f ∙ ap (λ (b : Bool). pick b 20 0) q))
 
-  pub begin : n ≡ 0 → length samples < 2 ^ 64 → Loop given samples table first mem first mem 0
+  pub begin : n ≡ 0 → length samples < 2 ^ 64 → Loop given samples (wheelOn x first) (wheelOn x first) 0
   begin z l =
       record {
         rest = refl;
@@ -85,6 +90,6 @@ module _ {given last : ℕ} (samples : List ℕ) (r : Record) (mem table : List 
         promise = λ p. ends (p ∙ runs (ltb 3 last) refl);
       }
     where
-      runs : (b : Bool) → ltb 3 last ≡ b → run table samples (wheelOf first mem) ≡ followOf last samples r mem table
+      runs : (b : Bool) → ltb 3 last ≡ b → run samples (wheelOn x first) ≡ followOf last samples x
       runs true q = absurd (omega (arith, sym z ∙ (f ∙ ap (λ (b : Bool). pick b 20 0) q)))
-      runs false q = rw q (ap (λ (m : ℕ). run table samples (wheelOf (ended m (started last r)) mem)) z)
+      runs false q = rw q (ap (λ (m : ℕ). run samples (wheelOn x (ended m (started last (x .state))))) z)

@@ -9,21 +9,24 @@ use lib.Dec.{eqb}
 use borrow.Author.Tests.{eq-eqb, ne-eqb, eqb-true}
 use Rattle.word.specs.Word.{pick}
 use Rattle.machine.specs.declared.Turned.{Turned}
-use Rattle.wheel.specs.Wheel.{steps, fault, turnBy, memoryBy, Wheel, wheelOf, counted, ended, moved, taken}
+use Rattle.wheel.specs.Wheel.{steps, fault, turnBy, memoryBy, Wheel, wheelOf, wheelOn, machineIn, counted, ended, moved, taken}
 use Rattle.wheel.specs.declared.Wheeled.{Wheeled}
 
-module _ (table : List ℕ) (s : ℕ) (w : Wheeled) (mem : List ℕ) {n : ℕ} (f : n ≡ fault (w .last) s) where
-  pub take-ends : n ≢ 0 → wheelOf (ended n w) mem ≡ taken table s (wheelOf w mem)
+module _ (s : ℕ) (w : Wheeled) (mem table : List ℕ) {n : ℕ} (f : n ≡ fault (w .last) s) where
+  abbrev u : Wheel
+  u = wheelOf w mem table
+
+  pub take-ends : n ≢ 0 → wheelOf (ended n w) mem table ≡ taken s u
   unfolding taken
-  take-ends h = rw (ne-eqb (fault (w .last) s) 0 (λ e. h (f ∙ e))) (ap (λ (m : ℕ). wheelOf (ended m w) mem) f)
+  take-ends h = rw (ne-eqb (fault (w .last) s) 0 (λ e. h (f ∙ e))) (ap (λ (m : ℕ). wheelOf (ended m w) mem table) f)
 
   pub take-moves : n ≡ 0 → {k : ℕ} {t : Turned} {mem′ : List ℕ} {a : Wheeled} → k ≡ steps (w .last) s
-      → (t ≡ turnBy k (w .state) mem table) × (mem′ ≡ memoryBy k (w .state) mem table) → a ≡ counted k s t w → wheelOf a mem′ ≡ taken table s (wheelOf w mem)
+      → (t ≡ turnBy k (machineIn u)) × (mem′ ≡ memoryBy k (machineIn u)) → a ≡ counted k s t w → wheelOf a mem′ table ≡ taken s u
   unfolding taken
   take-moves e {k} {t} {mem′} {a} q p c =
       rw (eq-eqb (fault (w .last) s) 0 (sym f ∙ e))
-      (subst (λ (m : ℕ). wheelOf a mem′ ≡ moved table m s (wheelOf w mem)) q
-      (λ j. wheelOf ((c ∙ ap (λ (u : Turned). counted k s u w) (p .0)) j) (p .1 j)))
+      (subst (λ (m : ℕ). wheelOf a mem′ table ≡ moved m s u) q
+      (λ j. wheelOf ((c ∙ ap (λ (u : Turned). counted k s u w) (p .0)) j) (p .1 j) table))
 
 -- ---- the counts grow by one at most
 
@@ -40,19 +43,19 @@ one-most false true false h = omega arith
 one-most false false true h = omega arith
 one-most false false false h = omega arith
 
-module _ (table : List ℕ) (s : ℕ) (w : Wheel) where
-  pub made-more : made (taken table s w) ≤ made w + 1
+module _ (s : ℕ) (w : Wheel) where
+  pub made-more : made (taken s w) ≤ made w + 1
   unfolding taken
   made-more = go (eqb (fault (w .answer .last) s) 0)
     where
       k : ℕ
       k = steps (w .answer .last) s
 
-      go : (b : Bool) → made (pick b (moved table k s w) (wheelOf (ended (fault (w .answer .last) s) (w .answer)) (w .memory))) ≤ made w + 1
+      go : (b : Bool) → made (pick b (moved k s w) (wheelOn (machineIn w) (ended (fault (w .answer .last) s) (w .answer)))) ≤ made w + 1
       go true =
           omega (
             arith,
-            one-most (eqb k 1) (eqb k 3) (eqb (turnBy k (w .answer .state) (w .memory) table .refusal) 0)
+            one-most (eqb k 1) (eqb k 3) (eqb (turnBy k (machineIn w) .refusal) 0)
                 (λ e e′. omega (arith, eqb-true k 1 e, eqb-true k 3 e′)),
           )
       go false = omega arith

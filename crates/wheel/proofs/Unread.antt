@@ -7,35 +7,34 @@ use mathlib.Core.List.{List, [], _∷_, _++_}
 use lib.Dec.{eqb, ltb}
 use borrow.Author.Tests.{eqb-true}
 use Rattle.word.specs.Word.{pick}
-use Rattle.wheel.specs.Wheel.{Wheel, wheelOf, started, ended, taken, run}
+use Rattle.wheel.specs.Wheel.{Wheel, wheelOn, started, ended, taken, run}
 use Rattle.wheel.specs.Claims.{Unread}
-use Rattle.wheel.proofs.Promise.{whole, promised}
 
 abbrev refusal : Wheel → ℕ
 refusal w = w .answer .refusal
 
-run-ended : (table m l : List ℕ) (w : Wheel) → refusal w ≡ 0 → refusal (run table l w) ≢ 0 → run table l w ≡ run table (l ++ m) w
+run-ended : (m l : List ℕ) (w : Wheel) → refusal w ≡ 0 → refusal (run l w) ≢ 0 → run l w ≡ run (l ++ m) w
 unfolding run
-run-ended table m [] w z h = absurd (h z)
-run-ended table m (s ∷ rest) w z h = go (run-ended table m rest t) (eqb (refusal t) 0) refl h
+run-ended m [] w z h = absurd (h z)
+run-ended m (s ∷ rest) w z h = go (run-ended m rest t) (eqb (refusal t) 0) refl h
   where
     t : Wheel
-    t = taken table s w
+    t = taken s w
 
-    go : (refusal t ≡ 0 → refusal (run table rest t) ≢ 0 → run table rest t ≡ run table (rest ++ m) t)
-        → (c : Bool) → eqb (refusal t) 0 ≡ c → refusal (pick c (run table rest t) t) ≢ 0 → pick c (run table rest t) t ≡ pick c (run table (rest ++ m) t) t
+    go : (refusal t ≡ 0 → refusal (run rest t) ≢ 0 → run rest t ≡ run (rest ++ m) t)
+        → (c : Bool) → eqb (refusal t) 0 ≡ c → refusal (pick c (run rest t) t) ≢ 0 → pick c (run rest t) t ≡ pick c (run (rest ++ m) t) t
     go f true e n = f (eqb-true _ _ e) n
     go f false e n = refl
 
 pub unread : Unread
-unread given l m r mem table a mem′ p h = promised (p .bounds) (whole p ∙ go (ltb 3 given) (λ e. h (ap refusal (whole p) ∙ e)))
+unread given l m x w p h = record { left = p .left ∙ go (ltb 3 given) (λ e. h (ap refusal (p .left) ∙ e)); bounds = p .bounds }
   where
     first : Wheel
-    first = wheelOf (started given r) mem
+    first = wheelOn x (started given (x .state))
 
     over : Wheel
-    over = wheelOf (ended 20 (started given r)) mem
+    over = wheelOn x (ended 20 (started given (x .state)))
 
-    go : (b : Bool) → refusal (pick b over (run table l first)) ≢ 0 → pick b over (run table l first) ≡ pick b over (run table (l ++ m) first)
+    go : (b : Bool) → refusal (pick b over (run l first)) ≢ 0 → pick b over (run l first) ≡ pick b over (run (l ++ m) first)
     go true n = refl
-    go false n = run-ended table m l first refl n
+    go false n = run-ended m l first refl n

@@ -8,9 +8,9 @@ use Rattle.word.specs.Word.{pick}
 use Rattle.step.specs.declared.Direction.{Direction}
 use Rattle.step.specs.declared.Direction.the-variants.{Forward, Back}
 use Rattle.step.specs.View.{byWay}
+use Rattle.machine.specs.Machine.{Machine}
 use Rattle.machine.specs.Calls.{turnOf, memoryOf, accepted}
-use Rattle.machine.specs.declared.Record.{Record}
-use Rattle.wheel.specs.Wheel.{fault, wheelOf, started, ended, followOf, WheelPromise}
+use Rattle.wheel.specs.Wheel.{fault, Wheel, wheelOf, wheelOn, machineIn, started, ended, followOf, WheelPromise}
 use Rattle.wheel.specs.declared.Wheeled.{Wheeled}
 
 -- ---- what a call with one sample comes to, in terms of the turns alone
@@ -18,18 +18,18 @@ use Rattle.wheel.specs.declared.Wheeled.{Wheeled}
 -- given p, the sample s makes a turn this way, which is counted by its refusal
 abbrev pub Moves : Direction → ℕ → ℕ → Type 0
 Moves d p s =
-    (r : Record) (mem table : List ℕ)
-    → (let t = turnOf d r mem table in let n = accepted (t .refusal) in
-    followOf p (s ∷ []) r mem table
-    ≡ wheelOf (record { forward = byWay d n 0; back = byWay d 0 n; refused = 1 - n; last = s; refusal = 0; state = t .state }) (memoryOf d r mem table))
+    (x : Machine)
+    → (let t = turnOf d x in let n = accepted (t .refusal) in
+    followOf p (s ∷ []) x
+    ≡ wheelOf (record { forward = byWay d n 0; back = byWay d 0 n; refused = 1 - n; last = s; refusal = 0; state = t .state }) (memoryOf d x) (x .table))
 
 -- given s, the same once more turns and counts nothing
 abbrev pub Rests : ℕ → Type 0
-Rests s = (r : Record) (mem table : List ℕ) → followOf s (s ∷ []) r mem table ≡ wheelOf (started s r) mem
+Rests s = (x : Machine) → followOf s (s ∷ []) x ≡ wheelOn x (started s (x .state))
 
 -- given p, the sample s ends the call by n: nothing is turned, and p is the last sample
 abbrev pub Ends : ℕ → ℕ → ℕ → Type 0
-Ends n p s = (r : Record) (mem table : List ℕ) → followOf p (s ∷ []) r mem table ≡ wheelOf (ended n (started p r)) mem
+Ends n p s = (x : Machine) → followOf p (s ∷ []) x ≡ wheelOn x (ended n (started p (x .state)))
 
 -- s comes after p in the forward cycle: from p to s is a turn forward, from s to p one back
 abbrev pub Follows : ℕ → ℕ → Type 0
@@ -45,7 +45,7 @@ pub record Circle : Type 0 where
 
 -- ---- lists of samples
 
--- the answers of two calls, one behind the other, as one
+-- the answers of two calls, one behind the other, as one, on what the second left
 abbrev pub joined : Wheeled → Wheeled → Wheeled
 joined a b =
     record {
@@ -57,13 +57,16 @@ joined a b =
       state = b .state;
     }
 
+abbrev pub behind : Wheeled → Wheel → Wheel
+behind a w = wheelOn (machineIn w) (joined a (w .answer))
+
 -- A list may be cut: where the first call is not refused, a second one that is given its last sample, on what it left, comes
 -- with it to what one call of the whole list does. Proved in proofs/Cut.
 abbrev pub Cut : Type 0
 Cut =
-    (given : ℕ) (l m : List ℕ) (r : Record) (mem table : List ℕ) (a b : Wheeled) (mem′ mem″ : List ℕ)
-    → WheelPromise given l r mem table a mem′ → a .refusal ≡ 0 → WheelPromise (a .last) m (a .state) mem′ table b mem″
-    → WheelPromise given (l ++ m) r mem table (joined a b) mem″
+    (given : ℕ) (l m : List ℕ) (x : Machine) (v w : Wheel)
+    → WheelPromise given l x v → v .answer .refusal ≡ 0 → WheelPromise (v .answer .last) m (machineIn v) w
+    → WheelPromise given (l ++ m) x (behind (v .answer) w)
 
 -- the last sample of a list behind p, and the refusal that ends it
 unfoldable pub endOf : ℕ → List ℕ → ℕ × ℕ
@@ -73,11 +76,11 @@ endOf p (s ∷ rest) = pick (eqb (fault p s) 0) (endOf s rest) (p, fault p s)
 -- Both are told by the samples alone, whatever the machine is and refuses. Proved in proofs/Alone.
 abbrev pub SamplesAlone : Type 0
 SamplesAlone =
-    (given : ℕ) (l : List ℕ) (r : Record) (mem table : List ℕ) (a : Wheeled) (mem′ : List ℕ)
-    → WheelPromise given l r mem table a mem′ → (a .last, a .refusal) ≡ pick (ltb 3 given) (given, 20) (endOf given l)
+    (given : ℕ) (l : List ℕ) (x : Machine) (w : Wheel)
+    → WheelPromise given l x w → (w .answer .last, w .answer .refusal) ≡ pick (ltb 3 given) (given, 20) (endOf given l)
 
 -- What stands behind the sample that ended a call is not looked at: a longer list comes to the same. Proved in proofs/Unread.
 abbrev pub Unread : Type 0
 Unread =
-    (given : ℕ) (l m : List ℕ) (r : Record) (mem table : List ℕ) (a : Wheeled) (mem′ : List ℕ)
-    → WheelPromise given l r mem table a mem′ → a .refusal ≢ 0 → WheelPromise given (l ++ m) r mem table a mem′
+    (given : ℕ) (l m : List ℕ) (x : Machine) (w : Wheel)
+    → WheelPromise given l x w → w .answer .refusal ≢ 0 → WheelPromise given (l ++ m) x w

@@ -5,7 +5,8 @@ use mathlib.Core.List.{List, [], _∷_}
 use lib.Dec.{eqb, ltb}
 use Rattle.word.specs.Word.{pick, subWord}
 use Rattle.step.specs.declared.Direction.the-variants.{Forward, Back}
-use Rattle.machine.specs.Calls.{machineOf, Bounded, turnOf, memoryOf, accepted}
+use Rattle.machine.specs.Machine.{Machine, machineOf, Bounded}
+use Rattle.machine.specs.Calls.{turnOf, memoryOf, accepted}
 use Rattle.machine.specs.declared.Record.{Record}
 use Rattle.machine.specs.declared.Turned.{Turned}
 use Rattle.wheel.specs.declared.Wheeled.{Wheeled}
@@ -26,21 +27,29 @@ fault p s = pick (ltb 3 s) 20 (pick (eqb (steps p s) 2) 19 0)
 
 -- ---- the turn of k steps: one is a turn forward; three are one against the circle, a turn back; none is no turn
 
-abbrev pub turnBy : ℕ → Record → List ℕ → List ℕ → Turned
-turnBy k r mem table = pick (eqb k 1) (turnOf Forward r mem table) (pick (eqb k 3) (turnOf Back r mem table) (record { refusal = 0; state = r }))
+abbrev pub turnBy : ℕ → Machine → Turned
+turnBy k x = pick (eqb k 1) (turnOf Forward x) (pick (eqb k 3) (turnOf Back x) (record { refusal = 0; state = x .state }))
 
-abbrev pub memoryBy : ℕ → Record → List ℕ → List ℕ → List ℕ
-memoryBy k r mem table = pick (eqb k 1) (memoryOf Forward r mem table) (pick (eqb k 3) (memoryOf Back r mem table) mem)
+abbrev pub memoryBy : ℕ → Machine → List ℕ
+memoryBy k x = pick (eqb k 1) (memoryOf Forward x) (pick (eqb k 3) (memoryOf Back x) (x .memory))
 
 -- ---- the samples of a call
 
--- between two samples: the answer so far, and the lent memory
+-- between two samples: the answer so far, and the lent words
 pub record Wheel : Type 0 where
   pub answer : Wheeled
   pub memory : List ℕ
+  pub table : List ℕ
 
-abbrev pub wheelOf : Wheeled → List ℕ → Wheel
-wheelOf a mem = record { answer = a; memory = mem }
+abbrev pub wheelOf : Wheeled → List ℕ → List ℕ → Wheel
+wheelOf a mem table = record { answer = a; memory = mem; table = table }
+
+-- with an answer on a machine's words; and the machine in it
+abbrev pub wheelOn : Machine → Wheeled → Wheel
+wheelOn x a = wheelOf a (x .memory) (x .table)
+
+abbrev pub machineIn : Wheel → Machine
+machineIn w = machineOf (w .answer .state) (w .memory) (w .table)
 
 -- before the first sample: the given one is the last
 abbrev pub started : ℕ → Record → Wheeled
@@ -62,32 +71,29 @@ counted k s t a =
 abbrev pub ended : ℕ → Wheeled → Wheeled
 ended n a = record { forward = a .forward; back = a .back; refused = a .refused; last = a .last; refusal = n; state = a .state }
 
-module _ (table : List ℕ) where
-  -- a sample k steps from the last one
-  abbrev pub moved : ℕ → ℕ → Wheel → Wheel
-  moved k s w =
-      let r = w .answer .state in
-      wheelOf (counted k s (turnBy k r (w .memory) table) (w .answer)) (memoryBy k r (w .memory) table)
+-- a sample k steps from the last one
+abbrev pub moved : ℕ → ℕ → Wheel → Wheel
+moved k s w = wheelOf (counted k s (turnBy k (machineIn w)) (w .answer)) (memoryBy k (machineIn w)) (w .table)
 
-  -- a sample ends the call, or moves the wheel
-  unfoldable pub taken : ℕ → Wheel → Wheel
-  taken s w =
-      let p = w .answer .last in
-      pick (eqb (fault p s) 0) (moved (steps p s) s w) (wheelOf (ended (fault p s) (w .answer)) (w .memory))
+-- a sample ends the call, or moves the wheel
+unfoldable pub taken : ℕ → Wheel → Wheel
+taken s w =
+    let p = w .answer .last in
+    pick (eqb (fault p s) 0) (moved (steps p s) s w) (wheelOn (machineIn w) (ended (fault p s) (w .answer)))
 
-  -- sample by sample, up to the first that ends the call
-  unfoldable pub run : List ℕ → Wheel → Wheel
-  run [] w = w
-  run (s ∷ rest) w = pick (eqb (taken s w .answer .refusal) 0) (run rest (taken s w)) (taken s w)
+-- sample by sample, up to the first that ends the call
+unfoldable pub run : List ℕ → Wheel → Wheel
+run [] w = w
+run (s ∷ rest) w = pick (eqb (taken s w .answer .refusal) 0) (run rest (taken s w)) (taken s w)
 
 -- the whole call; the given sample is looked at before any
-abbrev pub followOf : ℕ → List ℕ → Record → List ℕ → List ℕ → Wheel
-followOf given samples r mem table =
-    pick (ltb 3 given) (wheelOf (ended 20 (started given r)) mem) (run table samples (wheelOf (started given r) mem))
+abbrev pub followOf : ℕ → List ℕ → Machine → Wheel
+followOf given samples x =
+    let first = started given (x .state) in
+    pick (ltb 3 given) (wheelOn x (ended 20 first)) (run samples (wheelOn x first))
 
--- What a call with these samples from r, mem and table promises of its answer a and of the lent memory at exit; and the
--- bounds of its arguments, as of a turn's.
-pub record WheelPromise (given : ℕ) (samples : List ℕ) (r : Record) (mem table : List ℕ) (a : Wheeled) (mem′ : List ℕ) : Type 0 where
-  pub answer : a ≡ followOf given samples r mem table .answer
-  pub memory : mem′ ≡ followOf given samples r mem table .memory
-  pub bounds : Bounded (machineOf r mem)
+-- What a call with these samples from x promises of its answer and of the lent words at exit, together, w; and the bounds of
+-- its arguments, as of a turn's.
+pub record WheelPromise (given : ℕ) (samples : List ℕ) (x : Machine) (w : Wheel) : Type 0 where
+  pub left : w ≡ followOf given samples x
+  pub bounds : Bounded x

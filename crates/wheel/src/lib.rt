@@ -2,6 +2,7 @@
 ghost use mathlib.Core.Path.{_≡_};
 ghost use Prim.Native.Nat.{_+_, _^_, _<_, _≤_};
 ghost use Rattle.word.specs.Word.{pick};
+ghost use Rattle.machine.specs.Machine.{machineOf};
 ghost use Rattle.wheel.specs.Wheel.{place, steps, fault, wheelOf, counted, taken, WheelPromise};
 use machine::Record;
 use machine::Turned;
@@ -69,7 +70,7 @@ fn count(k: u32, s: u32, t: Turned, w: Wheeled) -> Wheeled
 // Counted in each branch by itself: with one count behind all three, a turn's record is copied once more.
 fn take(s: u32, w: Wheeled, mem: &mut [u32], table: &[u32]) -> Wheeled
     requires { ⌜ w .forward + w .back + w .refused + 1 < 2 ^ 64 ⌝ }
-    ensures { λ r. ⌜ wheelOf r (now (mem .exit)) ≡ taken (now (table .entry)) s (wheelOf w (now (mem .entry))) ⌝ }
+    ensures { λ r. ⌜ wheelOf r (now (mem .exit)) (now (table .entry)) ≡ taken s (wheelOf w (now (mem .entry)) (now (table .entry))) ⌝ }
 {
     let n = fault_at(w.last, s);
     if n != 0 {
@@ -96,7 +97,7 @@ fn take(s: u32, w: Wheeled, mem: &mut [u32], table: &[u32]) -> Wheeled
 
 // Turns the machine as the samples say, up to the first that ends the call.
 pub fn follow(r: Record, given: u8, samples: &[u8], mem: &mut [u32], table: &[u32]) -> Wheeled
-    ensures { λ a. ⌜ WheelPromise given (now (samples .entry)) r (now (mem .entry)) (now (table .entry)) a (now (mem .exit)) ⌝ }
+    ensures { λ a. ⌜ WheelPromise given (now (samples .entry)) (machineOf r (now (mem .entry)) (now (table .entry))) (wheelOf a (now (mem .exit)) (now (table .entry))) ⌝ }
 {
     let last = wide(given);
     let mut w = Wheeled {

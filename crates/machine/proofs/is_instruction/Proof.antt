@@ -10,4 +10,4 @@ is-instruction-spec =
     tie.close
     (tie.spec
     (λ c κs. search needs) (λ c. search needs) (λ c. search needs) (λ c κs. search needs)
-    (λ c. rw (c .before .before .forward .ensures .answer, c .before .before .before .before .before .zero .ensures) (ap not (told-by-13 _))))
+    (λ c. rw (c .before .before .forward .ensures .refusal, c .before .before .before .before .before .zero .ensures) (ap not (told-by-13 _))))

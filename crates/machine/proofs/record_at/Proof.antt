@@ -3,7 +3,7 @@ use mir.Syntax.{w64}
 use mir.Val.{SFits}
 use mir.Facts.{toZ-ofZ}
 use Rattle.machine.specs.Position.{advanced}
-use Rattle.machine.specs.Calls.{recordAt}
+use Rattle.machine.specs.Machine.{recordAt}
 use borrow.Author.Needs.{needs}
 use Rattle.machine.proofs.record_at.Statement.{statement}
 use Rattle.machine.proofs.record_at.Tie as tie

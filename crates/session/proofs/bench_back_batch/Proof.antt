@@ -1,5 +1,6 @@
 -- `session::bench_back_batch` meets its contract: Crank's walk, at `Record::back_batch`. Assumes nothing.
 use Rattle.step.specs.declared.Direction.the-variants.{Back}
+use Rattle.machine.specs.Machine.{leftAs}
 use Rattle.machine.specs.Batch.{BatchPromise}
 use Rattle.machine.proofs.Record.back_batch.Met as g-thm
 use Rattle.session.proofs.Form.{batch}
@@ -11,4 +12,4 @@ use Rattle.session.proofs.bench_back_batch.Code as code
 pub bench-back-batch-spec : {M : Type 1} → stated.statement M
 unfolding code.routine
 bench-back-batch-spec 𝓤 H 𝓜 𝓖 𝓡 =
-    crank-spec batch _ (BatchPromise Back) 𝓤 H 𝓜 𝓖 𝓡 code.env key.name (code.unfolded 𝓤 H 𝓜 𝓡) (g-thm.met 𝓤 H 𝓜 𝓖 𝓡)
+    crank-spec batch _ (λ n x a mem. BatchPromise Back n x (a .turns) (a .refusal) (leftAs x (a .state) mem)) 𝓤 H 𝓜 𝓖 𝓡 code.env key.name (code.unfolded 𝓤 H 𝓜 𝓡) (g-thm.met 𝓤 H 𝓜 𝓖 𝓡)

@@ -27,4 +27,4 @@ take-spec =
     (λ c.
     let i = c .before in
     let k = i .before .before .before in
-    take-moves _ _ _ _ (k .before .before .fault-at .ensures) (k .before .if1 .left) (k .steps-to .ensures) (turns-none _ _ _ _ (i .before .if2 .left) (i .if3 .left)) (c .count3 .ensures)))
+    take-moves _ _ _ _ (k .before .before .fault-at .ensures) (k .before .if1 .left) (k .steps-to .ensures) (turns-none _ _ (i .before .if2 .left) (i .if3 .left)) (c .count3 .ensures)))
