@@ -21,10 +21,11 @@ use Rattle.step.specs.declared.Access.{Access}
 use Rattle.step.specs.declared.Effect.{Effect}
 use Rattle.step.specs.declared.Effect.the-variants.{Write, SwapWord}
 use Rattle.step.specs.declared.Attempt.{Attempt}
-use Rattle.step.specs.declared.Attempt.the-variants.{Does}
+use Rattle.step.specs.declared.Attempt.the-variants.{Refused, Does}
 use Rattle.step.specs.View.{View, reg, byWay}
 use Rattle.step.specs.Sizes.{badSizes}
-use Rattle.step.specs.Step.{performed, number, refuse, isReady, whenReady, isAllowed, whenAllowed, attempt}
+use Rattle.word.specs.Refusal.{refuse}
+use Rattle.step.specs.Step.{performed, number, isReady, whenReady, isAllowed, whenAllowed, attempt}
 use Rattle.step.specs.Claims.{Accesses, Within}
 use Rattle.step.specs.Claims.Accesses.{copies, exchanges}
 use Rattle.step.proofs.Addresses.{allowed-within}
@@ -45,13 +46,13 @@ use Rattle.machine.proofs.Whole.{end-last}
 -- ---- a refusal, by what its test means
 
 rule : (b : Bool) (P : Type 0) → (b ≡ true → P) → (b ≡ false → P → ⊥) → (k : ℕ) (rest : Attempt) (R : ℕ → Type 0) → (b ≡ false → R (number rest))
-    → given P k R (number (refuse b k rest))
+    → given P k R (number (refuse b (Refused k) rest))
 unfolding refuse
 rule true P y n k rest R h = inl (y refl, refl)
 rule false P y n k rest R h = inr (n refl, h refl)
 
 -- one that does not stand
-skip : (b : Bool) (k : ℕ) (rest : Attempt) (R : ℕ → Type 0) → b ≡ false → R (number rest) → R (number (refuse b k rest))
+skip : (b : Bool) (k : ℕ) (rest : Attempt) (R : ℕ → Type 0) → b ≡ false → R (number rest) → R (number (refuse b (Refused k) rest))
 unfolding refuse
 skip true k rest R e h = absurd (true≢false e)
 skip false k rest R e h = h
@@ -59,7 +60,7 @@ skip false k rest R e h = h
 not-back : Forward ≡ Back → ⊥
 not-back e = let z : _≡_ {A = ℕ} 0 1 = ap (λ (d : Direction). byWay d 0 1) e in omega arith
 
-landed-refuse : (d : Direction) (s : View) (b : Bool) (k : ℕ) (x : Attempt) → landed d s (refuse b k x) ≡ refuse b k (landed d s x)
+landed-refuse : (d : Direction) (s : View) (b : Bool) (k : ℕ) (x : Attempt) → landed d s (refuse b (Refused k) x) ≡ refuse b (Refused k) (landed d s x)
 unfolding landed refuse
 landed-refuse Forward s true k x = refl
 landed-refuse Forward s false k x = refl
@@ -83,7 +84,7 @@ module _ (t : List ℕ) (old : ℕ) (s : View) (Q : Type 0) (R : ℕ → Type 0)
   abbrev Wrong : Type 0
   Wrong = badSizes (s .at) (s .memory) t ≡ true
 
-  no-code : (y : Attempt) → R (number y) → R11 (number (refuse (not (isCode (s .at) (pc s))) 11 y))
+  no-code : (y : Attempt) → R (number y) → R11 (number (refuse (not (isCode (s .at) (pc s))) (Refused 11) y))
   no-code y h =
       rule _ (s .at .k ≤ pc s) (λ z. ltb-false _ _ (not-true _ z)) (λ z p. omega (arith, p, ltb-true (pc s) (s .at .k) (not-not _ z))) 11 y R (λ _. h)
 
@@ -112,7 +113,7 @@ landed-rule : (d : Direction) (s : View) (e : Effect) (b : Bool)
     → given (b ≡ true) 18 (λ n. n ≡ 0) (number (landed d s (Does e)))
 unfolding landed
 landed-rule Forward s e b f h =
-    subst (λ (c : Bool). given (b ≡ true) 18 (λ n. n ≡ 0) (number (refuse c 18 (Does e)))) (sym (f refl))
+    subst (λ (c : Bool). given (b ≡ true) 18 (λ n. n ≡ 0) (number (refuse c (Refused 18) (Does e)))) (sym (f refl))
     (rule b (b ≡ true) (λ z. z) (λ z p. true≢false (sym p ∙ z)) 18 (Does e) (λ n. n ≡ 0) (λ _. refl))
 landed-rule Back s e b f h = inr (λ p. true≢false (sym p ∙ h refl), refl)
 
@@ -185,10 +186,10 @@ module _ (d : Direction) (x : Machine) (g : Bounded x) (k : Access) (a i : ℕ) 
       ∙ (ap (starts (s .at) (s .memory)) (getD-set-other (s .regs) a 0 _ 0 (omega (arith, access-named s (present s) k a i e (decode-formed _))))
       ∙ no-start)
 
-  own-is : landed d s (executed t d s) ≡ refuse (not (isReady (statusOf r))) 14 (refuse (not (isAllowed k (statusOf r) i)) 15 (landed d s (Does does)))
+  own-is : landed d s (executed t d s) ≡ refuse (not (isReady (statusOf r))) (Refused 14) (refuse (not (isAllowed k (statusOf r) i)) (Refused 15) (landed d s (Does does)))
   own-is =
       ap (landed d s) (attempt-is s t d (present s) k a i e)
-      ∙ (landed-refuse d s _ 14 _ ∙ ap (refuse (not (isReady (statusOf r))) 14) (landed-refuse d s _ 15 _))
+      ∙ (landed-refuse d s _ 14 _ ∙ ap (refuse (not (isReady (statusOf r))) (Refused 14)) (landed-refuse d s _ 15 _))
 
   abbrev Own18 : ℕ → Type 0
   Own18 = given (land ≡ true) 18 (λ n. n ≡ 0)

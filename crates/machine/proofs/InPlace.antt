@@ -14,7 +14,8 @@ use Rattle.step.specs.declared.Attempt.{Attempt}
 use Rattle.step.specs.declared.Attempt.the-variants.{Refused, Does}
 use Rattle.step.specs.declared.Store.{Store}
 use Rattle.step.specs.View.{View, seen, nodes}
-use Rattle.step.specs.Step.{written, noStore, marked, performed, number, refuse, isReady}
+use Rattle.word.specs.Refusal.{refuse}
+use Rattle.step.specs.Step.{written, noStore, marked, performed, number, isReady}
 use Rattle.step.proofs.Views.{seam-long}
 use Rattle.step.proofs.Undo.{refused-no, inside, set-back}
 use Rattle.machine.specs.Turn.{fromPc, toPc, from, newPc, starts, landed, judged, executed, turned, planAt, turnedAt}
@@ -25,7 +26,7 @@ use Rattle.machine.proofs.Sure.{landed-attempt, judged-attempt}
 
 -- ---- pc after the effect, and 18
 
-pub not-refused : (n : ℕ) (x : Attempt) → refuse false n x ≡ x
+pub not-refused : (n : ℕ) (x : Attempt) → refuse false (Refused n) x ≡ x
 unfolding refuse
 not-refused n x = refl
 
@@ -45,13 +46,13 @@ unfolding landed
 lands-refused {s} h f = sym (ap (landed Forward s) h)
 
 pub lands-done : (at : Status) (regs mem : List ℕ) {then : Status} {e : Effect} {new : ℕ} {bad start : Bool} {a b : Attempt}
-    → a ≡ Does e → then ≡ marked e at → start ≡ starts at (take (at .m) mem) new → bad ≡ eqb (then .qifw) 0 && start → b ≡ refuse bad 18 (Does e)
+    → a ≡ Does e → then ≡ marked e at → start ≡ starts at (take (at .m) mem) new → bad ≡ eqb (then .qifw) 0 && start → b ≡ refuse bad (Refused 18) (Does e)
     → PcAfter Forward (seen at regs mem) a new → b ≡ landed Forward (seen at regs mem) a
 unfolding landed
 lands-done at regs mem {e = e} {bad = bad} h t q l j f =
     let s = seen at regs mem in
     let bad-is : bad ≡ isReady (marked e at) && starts at (take (at .m) mem) (newPc Forward (performed e s)) = l ∙ rw (q, f .done e h, t) in
-    j ∙ (ap (λ (z : Bool). refuse z 18 (Does e)) bad-is ∙ sym (ap (landed Forward s) h))
+    j ∙ (ap (λ (z : Bool). refuse z (Refused 18) (Does e)) bad-is ∙ sym (ap (landed Forward s) h))
 
 -- ---- the plan
 

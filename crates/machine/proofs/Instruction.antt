@@ -10,17 +10,18 @@ use Rattle.qins.specs.Decode.{decode, operation, line, finishWord, kind}
 use Rattle.step.specs.declared.Direction.the-variants.{Forward}
 use Rattle.step.specs.declared.Attempt.{Attempt}
 use Rattle.step.specs.declared.Attempt.the-variants.{Refused, Does}
-use Rattle.step.specs.View.{View}
-use Rattle.step.specs.Step.{number, refuse}
+use Rattle.step.specs.View.{View, sized}
+use Rattle.word.specs.Refusal.{refuse}
+use Rattle.step.specs.Step.{number}
 use Rattle.step.proofs.Numbers.{attempt-13}
 use Rattle.step.specs.Sizes.{inRange, badSizes}
 use Rattle.machine.specs.Turn.{landed, judged, executed}
-use Rattle.machine.specs.Machine.{zeros, Machine, machineOf}
-use Rattle.machine.specs.Calls.{turnOf, found}
+use Rattle.machine.specs.Machine.{withStatus, zeros, Machine, machineOf}
+use Rattle.machine.specs.Calls.{refusal, found}
 
 -- a refusal by another number, which may only stand where the answer is no
 past : (b : Bool) (n : ℕ) (x : Attempt) (y : Bool) → eqb n 13 ≡ false → (b ≡ true → false ≡ y) → eqb (number x) 13 ≡ y
-    → eqb (number (refuse b n x)) 13 ≡ y
+    → eqb (number (refuse b (Refused n) x)) 13 ≡ y
 unfolding refuse
 past true n x y h g e = h ∙ g refl
 past false n x y h g e = e
@@ -36,9 +37,9 @@ finish-is-one w h = ap (λ (v : ℕ). eqb (kind (decode v)) 0) (sym (eqb-true w 
 
 -- code and memory are the one word
 abbrev oneWord : ℕ → Machine
-oneWord w = machineOf (record { regs = zeros .regs; qifv = 0; qifw = 0; k = 1; m = 1; n = 0; position = pos 0 }) (w ∷ []) []
+oneWord w = machineOf (withStatus zeros (sized 1 1 0)) (w ∷ []) []
 
-pub told-by-13 : (w : ℕ) → eqb (turnOf Forward (oneWord w) .refusal) 13 ≡ eqb (kind (decode w)) 0
+pub told-by-13 : (w : ℕ) → eqb (refusal Forward (oneWord w)) 13 ≡ eqb (kind (decode w)) 0
 unfolding judged badSizes inRange refuse
 told-by-13 w =
     let s = found Forward (oneWord w) in

@@ -20,7 +20,8 @@ use Rattle.step.specs.declared.Effect.the-variants.{Nothing, Write, WriteTwo, S
 use Rattle.step.specs.declared.Attempt.{Attempt}
 use Rattle.step.specs.declared.Attempt.the-variants.{Refused, Does}
 use Rattle.step.specs.View.{View, Bounds, reg, flip}
-use Rattle.step.specs.Step.{shifted, marked, written, performed, refuse, isReady, attempt}
+use Rattle.word.specs.Refusal.{refuse}
+use Rattle.step.specs.Step.{shifted, marked, written, performed, isReady, attempt}
 use Rattle.step.proofs.Sized.{SameSizes, marked-sizes, written-long, stored-long}
 use Rattle.step.proofs.Undo.{Fair, Undone, undone, refused-no, inside, passed, set-back, words-set, shifted-word, shifted-back}
 use Rattle.step.specs.Sizes.{inRange, badSizes}

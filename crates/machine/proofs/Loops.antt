@@ -10,11 +10,12 @@ use lib.IntN.{ℤ}
 use lib.ListN.{length}
 use borrow.Author.Tests.{ne-eqb, ltb-true, ltb-false}
 use Rattle.word.specs.Word.{pick}
+use Rattle.word.specs.Refusal.{refuse}
 use Rattle.step.specs.declared.Status.{Status}
 use Rattle.step.specs.declared.Direction.{Direction}
 use Rattle.step.specs.declared.Store.{Store}
 use Rattle.step.proofs.Sized.{SameSizes}
-use Rattle.machine.specs.Machine.{statusOf, updated, Machine, leftAs, placed, stateOf, wrongSizes, Bounded}
+use Rattle.machine.specs.Machine.{statusOf, updated, Machine, leftAs, atPosition, stateOf, wrongSizes, Bounded}
 use Rattle.machine.specs.Calls.{refusal, next}
 use Rattle.machine.specs.Position.{isLast, advanced}
 use Rattle.machine.specs.InPlace.{Steps, room, lastRefusal}
@@ -91,7 +92,7 @@ pub loop-starts : {d : Direction} {n most : ℕ} {x : Machine} {at : Status} →
 loop-starts {d} {n} {most} {x} e l g =
     subst (λ (a : Status). Loop d n most x a (x .state .regs) (x .memory) 0) (sym e)
     (record {
-      run = subst⁻¹ (λ (q : ℤ). Going d n x (placed x q) 0) (advance-none d (x .state .position)) (going d n x);
+      run = subst⁻¹ (λ (q : ℤ). Going d n x (atPosition x q) 0) (advance-none d (x .state .position)) (going d n x);
       limit = l;
       within = omega arith;
       sizes = record { k = refl; m = refl; n = refl };
@@ -147,7 +148,7 @@ module _ {d : Direction} {n most : ℕ} {x : Machine} {at : Status} {regs mem : 
       let z = at-last (omega arith) in
       let w = last-refusal d y z in
       out
-      (subst (λ (k : ℕ). Ends d (n - i) y 0 k y) (w ∙ ap (λ (b : Bool). pick b 10 21) wrong)
+      (subst (λ (k : ℕ). Ends d (n - i) y 0 k y) (w ∙ ap (λ (b : Bool). refuse b 10 21) wrong)
       (ends-refused d (n - i) y (omega arith) (last-stands d y z)))
 
   module _ {w : ℕ} {at′ : Status} {s : Store} {regs′ mem′ : List ℕ} (f : Steps true d at regs mem mem (x .table) w at′ s regs′ mem′) (h : i < most) where

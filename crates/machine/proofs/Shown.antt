@@ -23,7 +23,7 @@ use Rattle.step.proofs.Undo.{Fair}
 use Rattle.machine.specs.Turn.{turned}
 use Rattle.machine.specs.Position.{isLast}
 use Rattle.machine.specs.Machine.{statusOf, Machine, leftAs, stateOf, viewOf}
-use Rattle.machine.specs.Calls.{planOf, turnOf, memoryOf, refusal, found}
+use Rattle.machine.specs.Calls.{planOf, refusal, next, found}
 use Rattle.machine.specs.Preview.{plannedStore, storeBy, changes, reported, previewOf, ShowsTurn, Previews, refusedBy, ShowsRefusal}
 use Rattle.machine.specs.InPlace.{First}
 use Rattle.machine.specs.declared.Record.{Record}
@@ -64,7 +64,7 @@ module _ (x : Machine) where
       record { memory = sym (store-in (x .memory) m i _ (f .2) (omega (arith, f .2))); inside = λ l. (f .1, f .2, long) }
   leaves d (SetNode u j) f h = leaves-none _ refl
 
-  pub turn-leaves : (d : Direction) → Bounds (viewOf x) → Leaves (storeBy d x) (memoryOf d x)
+  pub turn-leaves : (d : Direction) → Bounds (viewOf x) → Leaves (storeBy d x) (next d x .memory)
   turn-leaves d g = go (planOf d x) refl
     where
       go : (a : Attempt) → planOf d x ≡ a → Leaves (plannedStore a (found d x)) (turned d a (viewOf x) .memory ++ drop m (x .memory))
@@ -118,7 +118,7 @@ pub previews : Previews
 previews d x p n y h q =
     let s = storeBy d x in
     subst₃ (ShowsTurn x) (sym (h .answer)) (sym (q .refusal)) (sym (q .left))
-    (shows x s (refusal d x) (turnOf d x .state) (memoryOf d x) (turn-leaves x d (h .bounds .view)) (changes s (getD (stateOf x .words) (s .address) 0)) refl)
+    (shows x s (refusal d x) (next d x .state) (next d x .memory) (turn-leaves x d (h .bounds .view)) (changes s (getD (stateOf x .words) (s .address) 0)) refl)
 
 -- ---- a refused turn
 

@@ -18,11 +18,12 @@ use Rattle.step.specs.declared.Attempt.the-variants.{Refused}
 use Rattle.step.specs.declared.Store.{Store}
 use Rattle.step.specs.View.{nodes}
 use Rattle.step.specs.Sizes.{badSizes}
-use Rattle.step.specs.Step.{noStore, number, refuse}
+use Rattle.word.specs.Refusal.{refuse}
+use Rattle.step.specs.Step.{noStore, number}
 use Rattle.machine.specs.Turn.{judged, planned, turned, planAt}
 use Rattle.machine.specs.Position.{end, isLast, advanced, positionAfter}
-use Rattle.machine.specs.Machine.{statusOf, updated, Machine, leftAs, placed, stateOf, viewOf, wrongSizes}
-use Rattle.machine.specs.Calls.{planOf, viewAfter, turnOf, memoryOf, accepted, refusal, next, found}
+use Rattle.machine.specs.Machine.{statusOf, updated, Machine, leftAs, atPosition, stateOf, viewOf, wrongSizes}
+use Rattle.machine.specs.Calls.{planOf, viewAfter, accepted, refusal, next, found}
 use Rattle.machine.specs.Preview.{plannedStore, storeBy}
 use Rattle.machine.specs.InPlace.{Steps, lastRefusal, First}
 use Rattle.machine.specs.Claims.{LastRefused, Unseen}
@@ -51,12 +52,12 @@ module _ {live : Bool} {d : Direction} (x : Machine) {mem : List ℕ} {w : ℕ} 
       go false z = sym (uncounted d (planOf d x) (x .state .position) (λ h. eqb-false w 0 z (refusal-is ∙ h)) ∙ q)
 
   pub state-is : (i : ℕ) (p : ℤ) → x .state .position ≡ advanced d i p
-      → updated (x .state) (advanced d (pick (eqb w 0) (i + 1) i) p) at′ regs′ ≡ turnOf d x .state
+      → updated (x .state) (advanced d (pick (eqb w 0) (i + 1) i) p) at′ regs′ ≡ next d x .state
   state-is i p q =
       let registers = f .registers ∙ ap (λ (a : Attempt). turned d a (viewOf x) .regs) plan-is in
       λ j. updated (x .state) (position-is i p q j) (status-is j) (registers j)
 
-  pub memory-is : live ≡ true → x .memory ≡ mem → mem′ ≡ memoryOf d x
+  pub memory-is : live ≡ true → x .memory ≡ mem → mem′ ≡ next d x .memory
   memory-is l r = f .memory ∙ rw (l, plan-is, r)
 
   pub store-is : live ≡ false → s ≡ storeBy d x
@@ -64,21 +65,23 @@ module _ {live : Bool} {d : Direction} (x : Machine) {mem : List ℕ} {w : ℕ} 
 
 -- ---- at the last position a turn is refused by 10 or 21
 
-ten-or-21 : (b : Bool) → refuse b 10 (Refused 21) ≡ Refused (pick b 10 21)
+ten-or-21 : (b : Bool) → refuse b (Refused 10) (Refused 21) ≡ Refused (refuse b 10 21)
 unfolding refuse
 ten-or-21 true = refl
 ten-or-21 false = refl
 
-plan-last : (d : Direction) (at : Status) (regs mem table : List ℕ) → planAt d true at regs mem table ≡ Refused (pick (badSizes at (take (at .m) mem) (nodes at table)) 10 21)
+plan-last : (d : Direction) (at : Status) (regs mem table : List ℕ) → planAt d true at regs mem table ≡ Refused (refuse (badSizes at (take (at .m) mem) (nodes at table)) 10 21)
 unfolding judged refuse
 plan-last Forward at regs mem table = ten-or-21 (badSizes at (take (at .m) mem) (nodes at table))
 plan-last Back at regs mem table = ten-or-21 (badSizes at (take (at .m) mem) (nodes at table))
 
-pub none-accepted : (b : Bool) → accepted (pick b 10 21) ≡ 0
+pub none-accepted : (b : Bool) → accepted (refuse b 10 21) ≡ 0
+unfolding refuse
 none-accepted true = refl
 none-accepted false = refl
 
-ten-or-21-above : (b : Bool) → _≢_ {A = ℕ} (pick b 10 21) 0
+ten-or-21-above : (b : Bool) → _≢_ {A = ℕ} (refuse b 10 21) 0
+unfolding refuse
 ten-or-21-above true e = omega arith
 ten-or-21-above false e = omega arith
 
@@ -112,12 +115,12 @@ last-refused d x y n p e = p .refusal ∙ last-refusal d x (ap (isLast d) e ∙ 
 -- ---- before it no turn looks at the position
 
 module _ (d : Direction) (x : Machine) (p : ℤ) (e : isLast d (x .state .position) ≡ isLast d p) where
-  same-plan : planOf d x ≡ planOf d (placed x p)
+  same-plan : planOf d x ≡ planOf d (atPosition x p)
   same-plan = ap (λ (b : Bool). planned (stateOf x .links) d b (viewOf x)) e
 
-  same-next : placed (next d x) (next d (placed x p) .state .position) ≡ next d (placed x p)
+  same-next : atPosition (next d x) (next d (atPosition x p) .state .position) ≡ next d (atPosition x p)
   same-next =
-      let q = next d (placed x p) .state .position in
+      let q = next d (atPosition x p) .state .position in
       ap
       (λ (a : Attempt).
       let s = turned d a (viewOf x) in leftAs x (updated (x .state) q (s .at) (s .regs)) (s .memory ++ drop (x .state .m) (x .memory)))
@@ -127,5 +130,5 @@ pub unseen : Unseen
 unseen d x y z p n i f g h k =
     let e = no-other d (x .state .position) (f .bounds .position) h ∙ sym (no-other d p (g .bounds .position) k) in (
       f .refusal ∙ (ap number (same-plan d x p e) ∙ sym (g .refusal)),
-      subst₂ (λ (y z : Machine). placed y (z .state .position) ≡ z) (sym (f .left)) (sym (g .left)) (same-next d x p e),
+      subst₂ (λ (y z : Machine). atPosition y (z .state .position) ≡ z) (sym (f .left)) (sym (g .left)) (same-next d x p e),
     )

@@ -1,7 +1,7 @@
 -- A turn as a call makes it: of a machine, of which only its state counts.
 use Prim.Native.Nat.{ℕ}
 use mathlib.Core.Path.{_≡_}
-use mathlib.Core.List.{List, _++_}
+use mathlib.Core.List.{_++_}
 use lib.Dec.{eqb}
 use lib.ListN.{drop}
 use Rattle.word.specs.Word.{pick}
@@ -13,7 +13,6 @@ use Rattle.machine.specs.Turn.{from, to, planned, turned}
 use Rattle.machine.specs.Position.{isLast, advanced, positionAfter}
 use Rattle.machine.specs.Machine.{statusOf, updated, Machine, leftAs, stateOf, viewOf, Bounded}
 use Rattle.machine.specs.declared.Record.{Record}
-use Rattle.machine.specs.declared.Turned.{Turned}
 
 -- ---- a turn
 
@@ -23,28 +22,20 @@ planOf d x = planned (stateOf x .links) d (isLast d (x .state .position)) (viewO
 abbrev pub viewAfter : Direction → Machine → View
 viewAfter d x = turned d (planOf d x) (viewOf x)
 
--- the answer
-abbrev pub turnOf : Direction → Machine → Turned
-turnOf d x =
-    let s = viewAfter d x in
-    record {
-      refusal = number (planOf d x);
-      state = updated (x .state) (positionAfter d (planOf d x) (x .state .position)) (s .at) (s .regs);
-    }
+-- its refusal, 0 for none
+abbrev pub refusal : Direction → Machine → ℕ
+refusal d x = number (planOf d x)
 
--- the lent memory at exit: its first M words as the turn leaves them, and the excess as it was
-abbrev pub memoryOf : Direction → Machine → List ℕ
-memoryOf d x = viewAfter d x .memory ++ drop (x .state .m) (x .memory)
+-- the machine that it leaves, as it was where the turn is refused: of the lent memory the first M words as the turn leaves them,
+-- and the excess as it was
+abbrev pub next : Direction → Machine → Machine
+next d x =
+    let s = viewAfter d x in
+    leftAs x (updated (x .state) (positionAfter d (planOf d x) (x .state .position)) (s .at) (s .regs)) (s .memory ++ drop (x .state .m) (x .memory))
 
 -- a turn counts 1 where its refusal is 0
 abbrev pub accepted : ℕ → ℕ
 accepted refusal = pick (eqb refusal 0) 1 0
-
-abbrev pub refusal : Direction → Machine → ℕ
-refusal d x = turnOf d x .refusal
-
-abbrev pub next : Direction → Machine → Machine
-next d x = leftAs x (turnOf d x .state) (memoryOf d x)
 
 -- a single turn from x is accepted and leaves y
 abbrev pub Leads : Direction → Machine → Machine → Type 0

@@ -4,11 +4,11 @@ use Prim.Native.Nat.{ℕ}
 use mathlib.Core.Path.{_≡_}
 use mathlib.Core.Logic.{_≢_}
 use lib.IntN.{ℤ}
-use Rattle.word.specs.Word.{pick}
+use Rattle.word.specs.Refusal.{refuse}
 use Rattle.step.specs.declared.Direction.{Direction}
 use Rattle.step.specs.declared.Direction.the-variants.{Forward, Back}
 use Rattle.step.specs.View.{flip}
-use Rattle.machine.specs.Machine.{Machine, placed, wrongSizes, excessOf, Bounded}
+use Rattle.machine.specs.Machine.{Machine, atPosition, wrongSizes, excessOf, Bounded}
 use Rattle.machine.specs.Calls.{TurnPromise, refusal, next, Leads}
 use Rattle.machine.specs.Position.{end}
 
@@ -47,10 +47,10 @@ pub record OnCalls : Type 0 where
 -- At the last one a turn this way is refused by 21, but for 10, whatever stands at pc.
 abbrev pub LastRefused : Type 0
 LastRefused =
-    (d : Direction) (x y : Machine) (n : ℕ) → TurnPromise d x n y → x .state .position ≡ end d → n ≡ pick (wrongSizes x) 10 21
+    (d : Direction) (x y : Machine) (n : ℕ) → TurnPromise d x n y → x .state .position ≡ end d → n ≡ refuse (wrongSizes x) 10 21
 
 -- From any two other positions a turn is the same but for the position that it leaves: it looks at nothing else of them.
 abbrev pub Unseen : Type 0
 Unseen =
-    (d : Direction) (x y z : Machine) (p : ℤ) (n k : ℕ) → TurnPromise d x n y → TurnPromise d (placed x p) k z
-    → x .state .position ≢ end d → p ≢ end d → (n ≡ k) × (placed y (z .state .position) ≡ z)
+    (d : Direction) (x y z : Machine) (p : ℤ) (n k : ℕ) → TurnPromise d x n y → TurnPromise d (atPosition x p) k z
+    → x .state .position ≢ end d → p ≢ end d → (n ≡ k) × (atPosition y (z .state .position) ≡ z)

@@ -7,6 +7,7 @@ use mathlib.Core.List.{List, _++_}
 use lib.IntN.{ℤ, pos, negsuc}
 use lib.ListN.{take, drop, set}
 use Rattle.word.specs.Word.{pick}
+use Rattle.word.specs.Refusal.{refuse}
 use Rattle.step.specs.declared.Status.{Status}
 use Rattle.step.specs.declared.Direction.{Direction}
 use Rattle.step.specs.declared.Direction.the-variants.{Forward, Back}
@@ -19,7 +20,7 @@ use Rattle.step.specs.Step.{written, noStore, storeOf, stored, performed, numbe
 use Rattle.machine.specs.Turn.{from, newPc, planAt, turnedAt}
 use Rattle.machine.specs.Position.{advanced}
 use Rattle.machine.specs.Machine.{recordAt, Machine, leftAs, wrongSizes}
-use Rattle.machine.specs.Calls.{turnOf, accepted}
+use Rattle.machine.specs.Calls.{refusal, next, accepted}
 use Rattle.machine.specs.Batch.{BatchPromise}
 use Rattle.machine.specs.Preview.{plannedStore, storeBy}
 use Rattle.machine.specs.declared.Record.{Record}
@@ -65,7 +66,7 @@ room Back (negsuc n) = 9223372036854775807 - n
 
 -- the refusal at the last position
 abbrev pub lastRefusal : Machine → ℕ
-lastRefusal x = pick (wrongSizes x) 10 21
+lastRefusal x = refuse (wrongSizes x) 10 21
 
 -- the record k turns further, by what a run came to
 abbrev pub recordBy : Direction → ℕ → Record → Ran → Record
@@ -73,8 +74,8 @@ recordBy d k r a = recordAt (a .at) (a .regs) (advanced d k (r .position))
 
 -- the first turn: its refusal w, the record r after it, and what it would store
 pub record First (d : Direction) (x : Machine) (w : ℕ) (r : Record) (s : Store) : Type 0 where
-  pub refusal : w ≡ turnOf d x .refusal
-  pub state : r ≡ turnOf d x .state
+  pub refusal : w ≡ refusal d x
+  pub state : r ≡ next d x .state
   pub store : s ≡ storeBy d x
 
 -- one that is live is a batch of n; one that is not tells of the first turn; and there is room for what either counts

@@ -1,6 +1,7 @@
 pub mod Turn
 pub mod Position
 pub mod Machine
+pub mod Lent
 pub mod Calls
 pub mod Claims
 pub mod Batch

@@ -8,7 +8,7 @@ use mir.Syntax.{w64}
 use mir.Val.{SFits}
 use Rattle.step.specs.declared.Status.{Status}
 use Rattle.step.specs.Table.{tableWords}
-use Rattle.step.specs.View.{View, Bounds}
+use Rattle.step.specs.View.{View, sized, Bounds}
 use Rattle.step.specs.Sizes.{badSizes}
 use Rattle.machine.specs.declared.Record.{Record}
 
@@ -27,19 +27,18 @@ updated r p at regs = record { regs = regs; qifv = at .qifv; qifw = at .qifw; k 
 
 -- r at another position
 abbrev pub positioned : Record → ℤ → Record
-positioned r p = updated r p (statusOf r) (r .regs)
+positioned r p = recordAt (statusOf r) (r .regs) p
+
+-- r with another node, wait count and sizes
+abbrev pub withStatus : Record → Status → Record
+withStatus r at = recordAt at (r .regs) (r .position)
+
+-- the record of a status and registers of which no turn was made
+abbrev pub newRecord : Status → List ℕ → Record
+newRecord at regs = recordAt at regs (pos 0)
 
 abbrev pub zeros : Record
-zeros =
-    record {
-      regs = 0 ∷ 0 ∷ 0 ∷ 0 ∷ 0 ∷ 0 ∷ 0 ∷ 0 ∷ 0 ∷ 0 ∷ 0 ∷ 0 ∷ 0 ∷ 0 ∷ 0 ∷ 0 ∷ [];
-      qifv = 0;
-      qifw = 0;
-      k = 0;
-      m = 0;
-      n = 0;
-      position = pos 0;
-    }
+zeros = newRecord (sized 0 0 0) (0 ∷ 0 ∷ 0 ∷ 0 ∷ 0 ∷ 0 ∷ 0 ∷ 0 ∷ 0 ∷ 0 ∷ 0 ∷ 0 ∷ 0 ∷ 0 ∷ 0 ∷ 0 ∷ [])
 
 -- ---- the machine, with all lent words
 
@@ -56,8 +55,8 @@ abbrev pub leftAs : Machine → Record → List ℕ → Machine
 leftAs x r mem = machineOf r mem (x .table)
 
 -- x at another position
-abbrev pub placed : Machine → ℤ → Machine
-placed x p = leftAs x (positioned (x .state) p) (x .memory)
+abbrev pub atPosition : Machine → ℤ → Machine
+atPosition x p = leftAs x (positioned (x .state) p) (x .memory)
 
 -- ---- what counts of it: the first M lent words, and the first 9 N, or all where there are fewer
 

@@ -3,11 +3,11 @@
 use Prim.Native.Nat.{ℕ}
 use mathlib.Core.Path.{_≡_}
 use mathlib.Core.List.{List, [], _∷_}
-use lib.IntN.{pos}
 use lib.ListN.{getD}
 use Rattle.step.specs.declared.Direction.{Direction}
 use Rattle.step.specs.declared.Direction.the-variants.{Forward, Back}
-use Rattle.machine.specs.Machine.{Machine, machineOf}
+use Rattle.step.specs.View.{sized, withNode}
+use Rattle.machine.specs.Machine.{newRecord, Machine, machineOf}
 use Rattle.machine.specs.Calls.{refusal, next}
 use Rattle.machine.specs.Batch.{after}
 
@@ -32,16 +32,7 @@ Hold (m ∷ rest) = (observed (m .way) (after (m .way) (m .before) (m .machine))
 -- pc, br, r1 and r2, with r3 0; the node; K, M and N; the memory and the table
 abbrev pub over : ℕ → ℕ → ℕ → ℕ → ℕ → ℕ → ℕ → ℕ → List ℕ → List ℕ → Machine
 over pc br a b node k m n =
-    machineOf
-    (record {
-      regs = pc ∷ br ∷ 0 ∷ 0 ∷ a ∷ b ∷ 0 ∷ 0 ∷ 0 ∷ 0 ∷ 0 ∷ 0 ∷ 0 ∷ 0 ∷ 0 ∷ 0 ∷ [];
-      qifv = node;
-      qifw = 0;
-      k = k;
-      m = m;
-      n = n;
-      position = pos 0;
-    })
+    machineOf (newRecord (withNode (sized k m n) node 0) (pc ∷ br ∷ 0 ∷ 0 ∷ a ∷ b ∷ 0 ∷ 0 ∷ 0 ∷ 0 ∷ 0 ∷ 0 ∷ 0 ∷ 0 ∷ 0 ∷ 0 ∷ []))
 
 -- with no table
 abbrev pub at : ℕ → ℕ → ℕ → ℕ → ℕ → ℕ → ℕ → ℕ → List ℕ → Machine

@@ -14,7 +14,7 @@ use Rattle.step.specs.declared.Store.{Store}
 use Rattle.step.specs.View.{View}
 use Rattle.step.specs.Step.{noStore, storeOf}
 use Rattle.machine.specs.Machine.{Machine, leftAs, stateOf, Bounded}
-use Rattle.machine.specs.Calls.{planOf, turnOf, found, TurnPromise}
+use Rattle.machine.specs.Calls.{planOf, refusal, next, found, TurnPromise}
 use Rattle.machine.specs.declared.Record.{Record}
 use Rattle.machine.specs.declared.Preview.{Preview}
 
@@ -39,9 +39,8 @@ reported refusal r s present =
 -- the answer: the refusal and the record of the turn, and the word that it would change
 abbrev pub previewOf : Direction → Machine → Preview
 previewOf d x =
-    let t = turnOf d x in
     let s = storeBy d x in
-    reported (t .refusal) (t .state) s (getD (stateOf x .words) (s .address) 0)
+    reported (refusal d x) (next d x .state) s (getD (stateOf x .words) (s .address) 0)
 
 -- What a preview from x promises of its answer; and the bounds of its arguments, as of a turn's.
 pub record PreviewPromise (d : Direction) (x : Machine) (p : Preview) : Type 0 where

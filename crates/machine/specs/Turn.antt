@@ -14,7 +14,8 @@ use Rattle.step.specs.declared.Attempt.{Attempt}
 use Rattle.step.specs.declared.Attempt.the-variants.{Refused, Does}
 use Rattle.step.specs.View.{View, reg, withReg, seen, nodes}
 use Rattle.step.specs.Sizes.{badSizes}
-use Rattle.step.specs.Step.{shifted, performed, refuse, isReady, attempt}
+use Rattle.word.specs.Refusal.{refuse}
+use Rattle.step.specs.Step.{shifted, performed, isReady, attempt}
 
 -- ---- pc
 
@@ -71,17 +72,17 @@ finishes l i = eqb (getD l i 0) finishWord
 -- those before the word's own attempt a; last: there is no position further this way; old is pc before it shrank
 unfoldable pub judged : List ℕ → Direction → Bool → ℕ → View → Attempt → Attempt
 judged t Forward last old s a =
-    refuse (badSizes (s .at) (s .memory) t) 10
-    (refuse last 21
-    (refuse (not (isCode (s .at) (pc s))) 11
-    (refuse (finishes (s .memory) (pc s)) 12
+    refuse (badSizes (s .at) (s .memory) t) (Refused 10)
+    (refuse last (Refused 21)
+    (refuse (not (isCode (s .at) (pc s))) (Refused 11)
+    (refuse (finishes (s .memory) (pc s)) (Refused 12)
     a)))
 judged t Back last old s a =
-    refuse (badSizes (s .at) (s .memory) t) 10
-    (refuse last 21
-    (refuse (isReady (s .at) && starts (s .at) (s .memory) old) 12
-    (refuse (not (isCode (s .at) (pc s))) 11
-    (refuse (isReady (s .at) && finishes (s .memory) (pc s)) 18
+    refuse (badSizes (s .at) (s .memory) t) (Refused 10)
+    (refuse last (Refused 21)
+    (refuse (isReady (s .at) && starts (s .at) (s .memory) old) (Refused 12)
+    (refuse (not (isCode (s .at) (pc s))) (Refused 11)
+    (refuse (isReady (s .at) && finishes (s .memory) (pc s)) (Refused 18)
     a))))
 
 -- the operation at pc
@@ -97,7 +98,7 @@ unfoldable pub landed : Direction → View → Attempt → Attempt
 landed Forward s (Refused n) = Refused n
 landed Forward s (Does e) =
     let s′ = performed e s in
-    refuse (isReady (s′ .at) && starts (s .at) (s .memory) (newPc Forward s′)) 18 (Does e)
+    refuse (isReady (s′ .at) && starts (s .at) (s .memory) (newPc Forward s′)) (Refused 18) (Does e)
 landed Back s a = a
 
 -- what a turn would do, or why it is refused, over what the word's own attempt is

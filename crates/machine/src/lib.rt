@@ -3,7 +3,8 @@ ghost use mathlib.Core.Path.{_≡_};
 ghost use Prim.Native.Nat.{_≤_};
 ghost use Rattle.qins.specs.Decode.{isInstruction};
 ghost use Rattle.step.specs.declared.Direction.{Direction};
-ghost use Rattle.machine.specs.Machine.{statusOf, recordAt, zeros, machineOf, wrongSizes};
+ghost use Rattle.machine.specs.Machine.{statusOf, recordAt, positioned, withStatus, newRecord, zeros, wrongSizes};
+ghost use Rattle.machine.specs.Lent.{atEntry, atExit};
 ghost use Rattle.machine.specs.Calls.{TurnPromise};
 ghost use Rattle.machine.specs.Batch.{BatchPromise};
 ghost use Rattle.machine.specs.Preview.{reported, PreviewPromise};
@@ -90,15 +91,8 @@ fn record_at(at: Status, regs: [u32; 16], d: Direction, k: u32, p: i64) -> Recor
     requires { ⌜ k ≤ room d p ⌝ }
     ensures { λ r. ⌜ r ≡ recordAt at regs (advanced d k p) ⌝ }
 {
-    Record {
-        regs,
-        qifv: at.qifv,
-        qifw: at.qifw,
-        k: at.k,
-        m: at.m,
-        n: at.n,
-        position: position::advance(d, k, p),
-    }
+    let further = position::advance(d, k, p);
+    Record::new(at, regs).at_position(further)
 }
 
 // What a preview reports: the turn, and the word that it would store where another one is present.
@@ -123,18 +117,47 @@ impl Record {
 
     pub const NODE_WORDS: usize = step::table::NODE_WORDS;
 
+    // Of a status and registers, of which no turn was made.
+    pub fn new(at: Status, regs: [u32; 16]) -> Record
+        ensures { λ r. ⌜ r ≡ newRecord at regs ⌝ }
+    {
+        Record {
+            regs,
+            qifv: at.qifv,
+            qifw: at.qifw,
+            k: at.k,
+            m: at.m,
+            n: at.n,
+            position: 0,
+        }
+    }
+
     pub fn zero() -> Record
         ensures { λ r. ⌜ r ≡ zeros ⌝ }
     {
-        Record {
-            regs: [0; 16],
-            qifv: 0,
-            qifw: 0,
-            k: 0,
-            m: 0,
-            n: 0,
-            position: 0,
-        }
+        Record::new(Status::sized(0, 0, 0), [0; 16])
+    }
+
+    // At another position.
+    pub fn at_position(self, p: i64) -> Record
+        ensures { λ r. ⌜ r ≡ positioned self p ⌝ }
+    {
+        let mut next = self;
+        next.position = p;
+        next
+    }
+
+    // With another node, wait count and sizes.
+    pub fn with_status(self, at: Status) -> Record
+        ensures { λ r. ⌜ r ≡ withStatus self at ⌝ }
+    {
+        let mut next = self;
+        next.qifv = at.qifv;
+        next.qifw = at.qifw;
+        next.k = at.k;
+        next.m = at.m;
+        next.n = at.n;
+        next
     }
 
     // What a turn sees of the record beside its registers.
@@ -152,16 +175,19 @@ impl Record {
 
     // Refusal 10: sizes out of range, or lent memory or table too short.
     pub fn has_bad_sizes(self, mem: &[u32], table: &[u32]) -> bool
-        ensures { λ r. ⌜ r ≡ wrongSizes (machineOf self (now (mem .entry)) (now (table .entry))) ⌝ }
+        ensures { λ r. ⌜ r ≡ wrongSizes (atEntry self mem table) ⌝ }
     {
         step::sizes::are_bad_sizes(self.status(), mem, table)
     }
 
     // The refusal of a turn at the last position.
     fn last_refusal(self, mem: &[u32], table: &[u32]) -> u32
-        ensures { λ r. ⌜ r ≡ lastRefusal (machineOf self (now (mem .entry)) (now (table .entry))) ⌝ }
+        ensures { λ r. ⌜ r ≡ lastRefusal (atEntry self mem table) ⌝ }
     {
-        word::choose(self.has_bad_sizes(mem, table), 10, 21)
+        if self.has_bad_sizes(mem, table) {
+            return 10;
+        }
+        21
     }
 
     // Turns until n are made or one is refused; where it is not live, it answers the first turn of them,
@@ -177,7 +203,7 @@ impl Record {
         shown: &[u32],
         table: &[u32],
     ) -> Ran
-        ensures { λ r. ⌜ Runs live d n (machineOf self (now (mem .entry)) (now (table .entry))) (now (shown .entry)) r (now (mem .exit)) ⌝ }
+        ensures { λ r. ⌜ Runs live d n (atEntry self mem table) (now (shown .entry)) r (now (mem .exit)) ⌝ }
     {
         let mut regs = self.regs;
         let mut at = self.status();
@@ -202,7 +228,7 @@ impl Record {
     }
 
     fn batch(self, d: Direction, n: u32, mem: &mut [u32], table: &[u32]) -> Batch
-        ensures { λ r. ⌜ BatchPromise d n (machineOf self (now (mem .entry)) (now (table .entry))) (r .turns) (r .refusal) (machineOf (r .state) (now (mem .exit)) (now (table .entry))) ⌝ }
+        ensures { λ r. ⌜ BatchPromise d n (atEntry self mem table) (r .turns) (r .refusal) (atExit (r .state) mem table) ⌝ }
     {
         let none = [0; 0];
         let p = self.position;
@@ -219,7 +245,7 @@ impl Record {
 
     // One turn: a run of one, not by way of a batch, whose record would be one copy more.
     fn turn(self, d: Direction, mem: &mut [u32], table: &[u32]) -> Turned
-        ensures { λ r. ⌜ TurnPromise d (machineOf self (now (mem .entry)) (now (table .entry))) (r .refusal) (machineOf (r .state) (now (mem .exit)) (now (table .entry))) ⌝ }
+        ensures { λ r. ⌜ TurnPromise d (atEntry self mem table) (r .refusal) (atExit (r .state) mem table) ⌝ }
     {
         let none = [0; 0];
         let p = self.position;
@@ -235,7 +261,7 @@ impl Record {
 
     // One turn, shown: a run that is not live.
     fn preview(self, d: Direction, mem: &[u32], table: &[u32]) -> Preview
-        ensures { λ r. ⌜ PreviewPromise d (machineOf self (now (mem .entry)) (now (table .entry))) r ⌝ }
+        ensures { λ r. ⌜ PreviewPromise d (atEntry self mem table) r ⌝ }
     {
         let mut none = [0; 0];
         let p = self.position;
@@ -250,42 +276,42 @@ impl Record {
 
     // One turn forward.
     pub fn forward(self, mem: &mut [u32], table: &[u32]) -> Turned
-        ensures { λ r. ⌜ TurnPromise Direction.Forward (machineOf self (now (mem .entry)) (now (table .entry))) (r .refusal) (machineOf (r .state) (now (mem .exit)) (now (table .entry))) ⌝ }
+        ensures { λ r. ⌜ TurnPromise Direction.Forward (atEntry self mem table) (r .refusal) (atExit (r .state) mem table) ⌝ }
     {
         self.turn(Direction::Forward, mem, table)
     }
 
     // One turn back.
     pub fn back(self, mem: &mut [u32], table: &[u32]) -> Turned
-        ensures { λ r. ⌜ TurnPromise Direction.Back (machineOf self (now (mem .entry)) (now (table .entry))) (r .refusal) (machineOf (r .state) (now (mem .exit)) (now (table .entry))) ⌝ }
+        ensures { λ r. ⌜ TurnPromise Direction.Back (atEntry self mem table) (r .refusal) (atExit (r .state) mem table) ⌝ }
     {
         self.turn(Direction::Back, mem, table)
     }
 
     // The turn forward, shown and not made.
     pub fn preview_forward(self, mem: &[u32], table: &[u32]) -> Preview
-        ensures { λ r. ⌜ PreviewPromise Direction.Forward (machineOf self (now (mem .entry)) (now (table .entry))) r ⌝ }
+        ensures { λ r. ⌜ PreviewPromise Direction.Forward (atEntry self mem table) r ⌝ }
     {
         self.preview(Direction::Forward, mem, table)
     }
 
     // The turn back, shown and not made.
     pub fn preview_back(self, mem: &[u32], table: &[u32]) -> Preview
-        ensures { λ r. ⌜ PreviewPromise Direction.Back (machineOf self (now (mem .entry)) (now (table .entry))) r ⌝ }
+        ensures { λ r. ⌜ PreviewPromise Direction.Back (atEntry self mem table) r ⌝ }
     {
         self.preview(Direction::Back, mem, table)
     }
 
     // n turns forward, or those before the first refusal.
     pub fn forward_batch(self, n: u32, mem: &mut [u32], table: &[u32]) -> Batch
-        ensures { λ r. ⌜ BatchPromise Direction.Forward n (machineOf self (now (mem .entry)) (now (table .entry))) (r .turns) (r .refusal) (machineOf (r .state) (now (mem .exit)) (now (table .entry))) ⌝ }
+        ensures { λ r. ⌜ BatchPromise Direction.Forward n (atEntry self mem table) (r .turns) (r .refusal) (atExit (r .state) mem table) ⌝ }
     {
         self.batch(Direction::Forward, n, mem, table)
     }
 
     // n turns back, likewise.
     pub fn back_batch(self, n: u32, mem: &mut [u32], table: &[u32]) -> Batch
-        ensures { λ r. ⌜ BatchPromise Direction.Back n (machineOf self (now (mem .entry)) (now (table .entry))) (r .turns) (r .refusal) (machineOf (r .state) (now (mem .exit)) (now (table .entry))) ⌝ }
+        ensures { λ r. ⌜ BatchPromise Direction.Back n (atEntry self mem table) (r .turns) (r .refusal) (atExit (r .state) mem table) ⌝ }
     {
         self.batch(Direction::Back, n, mem, table)
     }
@@ -298,9 +324,7 @@ pub fn is_instruction(w: u32) -> bool
 {
     let mut mem = [w];
     let table = [0; 0];
-    let mut r = Record::zero();
-    r.k = 1;
-    r.m = 1;
+    let r = Record::zero().with_status(Status::sized(1, 1, 0));
     let t = r.forward(&mut mem, &table);
     t.refusal != 13
 }

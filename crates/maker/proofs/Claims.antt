@@ -15,7 +15,7 @@ use Rattle.step.specs.declared.Direction.the-variants.{Forward}
 use Rattle.step.specs.declared.Attempt.the-variants.{Refused}
 use Rattle.step.specs.declared.Status.{Status}
 use Rattle.step.specs.Table.{tableWords}
-use Rattle.step.specs.Step.{refuse}
+use Rattle.word.specs.Refusal.{refuse}
 use Rattle.step.specs.Sizes.{inRange, badSizes}
 use Rattle.step.specs.View.{View}
 use Rattle.machine.specs.Turn.{pc, landed, judged, executed, planned}

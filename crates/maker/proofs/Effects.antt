@@ -11,7 +11,8 @@ use Rattle.step.specs.declared.Effect.the-variants.{Nothing, Write, WriteTwo, S
 use Rattle.step.specs.declared.Attempt.{Attempt}
 use Rattle.step.specs.declared.Attempt.the-variants.{Refused, Does}
 use Rattle.step.specs.View.{View}
-use Rattle.step.specs.Step.{refuse, attempt}
+use Rattle.word.specs.Refusal.{refuse}
+use Rattle.step.specs.Step.{attempt}
 use Rattle.machine.specs.Turn.{landed}
 use Rattle.maker.specs.declared.Kind.{Kind}
 use Rattle.maker.specs.declared.Kind.the-variants.{Plain, Opens, Closes}
@@ -36,12 +37,12 @@ abbrev pub Fine : Attempt → Type 0
 Fine (Refused n) = isOneOf n walkRefusals ≡ true
 Fine (Does e) = NoNode e
 
-fine : (b : Bool) (n : ℕ) (x : Attempt) → isOneOf n walkRefusals ≡ true → Fine x → Fine (refuse b n x)
+fine : (b : Bool) (n : ℕ) (x : Attempt) → isOneOf n walkRefusals ≡ true → Fine x → Fine (refuse b (Refused n) x)
 unfolding refuse
 fine true n x h f = h
 fine false n x h f = f
 
-no-wait : (x : Attempt) → Fine x → Fine (refuse false 14 x)
+no-wait : (x : Attempt) → Fine x → Fine (refuse false (Refused 14) x)
 unfolding refuse
 no-wait x h = h
 

@@ -5,7 +5,8 @@ use mathlib.Core.List.{List, [], _∷_}
 use Rattle.word.proofs.Words.{and-true}
 use Rattle.qins.specs.Decode.{extended, line, operation, decode}
 use Rattle.word.specs.Word.{addWord, subWord}
-use Rattle.step.specs.Step.{value, refuse, attempt}
+use Rattle.word.specs.Refusal.{refuse}
+use Rattle.step.specs.Step.{value, attempt}
 use Rattle.step.specs.Sizes.{inRange, badSizes}
 use Rattle.machine.specs.Turn.{landed}
 use Rattle.maker.specs.Walk.{size, used, cycles, ending, put, pair, linked, drawn}

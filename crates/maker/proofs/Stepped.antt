@@ -19,7 +19,8 @@ use Rattle.step.specs.declared.Attempt.{Attempt}
 use Rattle.step.specs.declared.Attempt.the-variants.{Refused, Does}
 use Rattle.step.specs.View.{View}
 use Rattle.step.specs.Sizes.{inRange, badSizes}
-use Rattle.step.specs.Step.{refuse, attempt, performed, number}
+use Rattle.word.specs.Refusal.{refuse}
+use Rattle.step.specs.Step.{attempt, performed, number}
 use Rattle.machine.specs.Turn.{pc, from, to, landed, judged, executed, planned, turned}
 use Rattle.machine.specs.declared.Record.{Record}
 use Rattle.machine.specs.declared.Turned.{Turned}

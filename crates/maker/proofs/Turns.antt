@@ -16,7 +16,8 @@ use Rattle.step.specs.declared.Attempt.{Attempt}
 use Rattle.step.specs.declared.Attempt.the-variants.{Refused, Does}
 use Rattle.step.specs.View.{View, reg, withReg}
 use Rattle.step.specs.Table.{fc, lc, cf, cl, nx, pr, w, link, paired}
-use Rattle.step.specs.Step.{shifted, performed, refuse, attempt, qif, child, pass, fiq}
+use Rattle.word.specs.Refusal.{refuse}
+use Rattle.step.specs.Step.{shifted, performed, attempt, qif, child, pass, fiq}
 use Rattle.step.specs.Step.{enter as entered}
 use Rattle.step.specs.Sizes.{inRange, badSizes}
 use Rattle.machine.specs.Turn.{pc, br, atPc, stride, isCode, starts, finishes, landed, judged, from, to}
@@ -115,7 +116,7 @@ set-lands : (s : View) (u j : ℕ) → isBeforeStart s ≡ false → landed Forw
 unfolding landed refuse
 set-lands s u j h = go (eqb j 0)
   where
-    go : (b : Bool) → refuse (b && starts (s .at) (s .memory) (pick b (shifted Forward (pc s) (stride (br s))) (pc s))) 18 (Does (SetNode u j)) ≡ Does (SetNode u j)
+    go : (b : Bool) → refuse (b && starts (s .at) (s .memory) (pick b (shifted Forward (pc s) (stride (br s))) (pc s))) (Refused 18) (Does (SetNode u j)) ≡ Does (SetNode u j)
     go true = rw h
     go false = refl
 

@@ -7,13 +7,14 @@ use native.Mathlib.Omega.{arith}
 use lib.Dec.{eqb, ltb, leb}
 use borrow.Author.Tests.{ltb-true, leb-true, eqb-true, eqb-false, lt-ltb, le-leb}
 use Rattle.word.proofs.Words.{and-true}
-use Rattle.step.specs.Step.{number, refuse, whenReady, isAllowed, whenAllowed, attempt}
+use Rattle.word.specs.Refusal.{refuse}
+use Rattle.step.specs.Step.{number, whenReady, isAllowed, whenAllowed, attempt}
 use Rattle.step.specs.Claims.{Within, Addressed, Addresses}
 use Rattle.step.specs.Claims.Accesses.{copies, exchanges}
 use Rattle.step.specs.declared.Status.{Status}
 use Rattle.step.specs.declared.Access.{Access}
 use Rattle.step.specs.declared.Effect.{Effect}
-use Rattle.step.specs.declared.Attempt.the-variants.{Does}
+use Rattle.step.specs.declared.Attempt.the-variants.{Refused, Does}
 
 pub allowed-within : (x : Access) (at : Status) (i : ℕ) → (isAllowed x at i ≡ true) ↔ Within x at i
 allowed-within Access.Copy at i = (ltb-true i (at .m), lt-ltb i (at .m))
@@ -27,7 +28,7 @@ unfolding refuse
 addressed x at i e = go (eqb (at .qifw) 0) refl (isAllowed x at i) refl
   where
     go : (ready : Bool) → eqb (at .qifw) 0 ≡ ready → (allowed : Bool) → isAllowed x at i ≡ allowed
-        → Addressed x at i (number (refuse (not ready) 14 (refuse (not allowed) 15 (Does e))))
+        → Addressed x at i (number (refuse (not ready) (Refused 14) (refuse (not allowed) (Refused 15) (Does e))))
     go true z true y =
         let w = allowed-within x at i .0 y in
         record {

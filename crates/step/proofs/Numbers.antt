@@ -11,7 +11,8 @@ use Rattle.qins.specs.Op.{Op}
 use Rattle.qins.specs.Op.Op.{None, Start, Finish, Xor, Add, Sub, Neg, Swap, SwapBits, Fetch, Exchange, Qif, Fiq}
 use Rattle.qins.specs.Decode.{kind}
 use Rattle.step.specs.View.{View}
-use Rattle.step.specs.Step.{number, refuse, child, enter, qif, pass, fiq, attempt}
+use Rattle.word.specs.Refusal.{refuse}
+use Rattle.step.specs.Step.{number, child, enter, qif, pass, fiq, attempt}
 use Rattle.step.specs.declared.Status.{Status}
 use Rattle.step.specs.declared.Direction.{Direction}
 use Rattle.step.specs.declared.Direction.the-variants.{Forward, Back}
@@ -23,7 +24,7 @@ abbrev pub Above : ℕ → Attempt → Type 0
 Above k (Refused n) = k < n
 Above k (Does e) = Unit {0}
 
-pub above : (k : ℕ) (b : Bool) (n : ℕ) (x : Attempt) → k < n → Above k x → Above k (refuse b n x)
+pub above : (k : ℕ) (b : Bool) (n : ℕ) (x : Attempt) → k < n → Above k x → Above k (refuse b (Refused n) x)
 unfolding refuse
 above k true n x h g = h
 above k false n x h g = g
@@ -37,7 +38,7 @@ picked : (b : Bool) (x y : Attempt) → Above 13 x → Above 13 y → Above 13 (
 picked true x y g h = g
 picked false x y g h = h
 
-later : (b : Bool) (n : ℕ) (x : Attempt) → 13 < n → Above 13 x → Above 13 (refuse b n x)
+later : (b : Bool) (n : ℕ) (x : Attempt) → 13 < n → Above 13 x → Above 13 (refuse b (Refused n) x)
 later = above 13
 
 module _ (t : List ℕ) where

@@ -18,7 +18,8 @@ use Rattle.qins.specs.Op.Source.{Imm, Reg, Negated, Complement, Sum, Product, Q
 use Rattle.qins.proofs.Formed.{Named, Apart, Formed}
 use Rattle.step.specs.View.{View, Words, Bounds, reg, flip}
 use Rattle.step.specs.Table.{lc, cf, cl, nx, pr, w, isNode, link, paired}
-use Rattle.step.specs.Step.{performed, value, shifted, refuse, isReady, whenReady, isAllowed, isCoin, child, enter, qif, pass, fiq, attempt}
+use Rattle.word.specs.Refusal.{refuse}
+use Rattle.step.specs.Step.{performed, value, shifted, isReady, whenReady, isAllowed, isCoin, child, enter, qif, pass, fiq, attempt}
 use Rattle.step.specs.declared.Status.{Status}
 use Rattle.step.specs.declared.Direction.{Direction}
 use Rattle.step.specs.declared.Direction.the-variants.{Forward, Back}
@@ -52,7 +53,7 @@ refused-no h = let z : _≡_ {A = ℕ} 0 1 = cc in omega arith
 pub inside : {e f : Effect} → Does e ≡ Does f → e ≡ f
 inside h = cc
 
-pub passed : (b : Bool) (n : ℕ) (x : Attempt) {e : Effect} → refuse b n x ≡ Does e → (b ≡ false) × (x ≡ Does e)
+pub passed : (b : Bool) (n : ℕ) (x : Attempt) {e : Effect} → refuse b (Refused n) x ≡ Does e → (b ≡ false) × (x ≡ Does e)
 unfolding refuse
 passed true n x h = absurd (refused-no h)
 passed false n x h = (refl, h)

@@ -6,6 +6,7 @@ use lib.Dec.{eqb, ltb, leb}
 use lib.ListN.{getD, set}
 use lib.Bits.{bitXor}
 use Rattle.word.specs.Word.{pick, addWord, subWord, mulWord, divWord, complement, withBit, isLess}
+use Rattle.word.specs.Refusal.{refuse}
 use Rattle.qins.specs.Op.{Op, Source}
 use Rattle.qins.specs.Op.Op.{None, Start, Finish, Xor, Add, Sub, Neg, Swap, SwapBits, Fetch, Exchange, Qif, Fiq}
 use Rattle.qins.specs.Op.Source.{Imm, Reg, Negated, Complement, Sum, Product, Quotient, Equal, Less, IfZero, IfNonzero, Bit}
@@ -90,17 +91,12 @@ abbrev pub number : Attempt → ℕ
 number (Refused n) = n
 number (Does e) = 0
 
--- refused by the number where the test holds, else the rest
-unfoldable pub refuse : Bool → ℕ → Attempt → Attempt
-refuse true n rest = Refused n
-refuse false n rest = rest
-
 -- 14 while waiting
 abbrev pub isReady : Status → Bool
 isReady at = eqb (at .qifw) 0
 
 abbrev pub whenReady : Status → Attempt → Attempt
-whenReady at rest = refuse (not (isReady at)) 14 rest
+whenReady at rest = refuse (not (isReady at)) (Refused 14) rest
 
 -- 15 by the kind of access: a copy may read any address below M, an exchange stays in K to M-1
 abbrev pub isAllowed : Access → Status → ℕ → Bool
@@ -108,27 +104,27 @@ isAllowed Access.Copy at i = ltb i (at .m)
 isAllowed Access.Exchange at i = leb (at .k) i && ltb i (at .m)
 
 abbrev pub whenAllowed : Access → Status → ℕ → Attempt → Attempt
-whenAllowed x at i rest = refuse (not (isAllowed x at i)) 15 rest
+whenAllowed x at i rest = refuse (not (isAllowed x at i)) (Refused 15) rest
 
 -- 16 for a coin that is neither 0 nor 1
 abbrev pub isCoin : ℕ → Bool
 isCoin x = leb x 1
 
 abbrev pub whenCoin : ℕ → Attempt → Attempt
-whenCoin x rest = refuse (not (isCoin x)) 16 rest
+whenCoin x rest = refuse (not (isCoin x)) (Refused 16) rest
 
 -- ---- qif, waiting and fiq, over the table t, with coin x
 
 module _ (t : List ℕ) where
   -- qif: from v to u, its first child
   unfoldable pub enter : Status → ℕ → ℕ → Attempt
-  enter at x u = refuse (not (paired t (at .n) (at .qifv) (fc x) u cf)) 17 (Does (SetNode u (link t (at .n) u w)))
+  enter at x u = refuse (not (paired t (at .n) (at .qifv) (fc x) u cf)) (Refused 17) (Does (SetNode u (link t (at .n) u w)))
 
   -- the present node is v's first child, and the wait count is at most its w
   unfoldable pub child : Status → ℕ → ℕ → Attempt → Attempt
   child at x v rest =
-      refuse (not (paired t (at .n) v (fc x) (at .qifv) cf)) 17
-      (refuse (ltb (link t (at .n) (at .qifv) w) (at .qifw)) 14 rest)
+      refuse (not (paired t (at .n) v (fc x) (at .qifv) cf)) (Refused 17)
+      (refuse (ltb (link t (at .n) (at .qifv) w) (at .qifw)) (Refused 14) rest)
 
   unfoldable pub qif : Direction → Status → ℕ → Attempt
   qif Forward at x =
@@ -142,7 +138,7 @@ module _ (t : List ℕ) where
   -- fiq: v is p's last child and u is next to p; it leads to the node y, one of the two
   unfoldable pub pass : Status → ℕ → ℕ → ℕ → ℕ → ℕ → Attempt
   pass at x v p u y =
-      refuse (not (paired t (at .n) p (lc x) v cl && paired t (at .n) p nx u pr)) 17 (Does (SetNode y (at .qifw)))
+      refuse (not (paired t (at .n) p (lc x) v cl && paired t (at .n) p nx u pr)) (Refused 17) (Does (SetNode y (at .qifw)))
 
   unfoldable pub fiq : Direction → Status → ℕ → Attempt
   fiq Forward at x =

@@ -21,9 +21,21 @@ reg s a = getD (s .regs) a 0
 abbrev pub withReg : View → ℕ → ℕ → View
 withReg s a v = record { at = s .at; regs = set (s .regs) a v; memory = s .memory }
 
+-- the status of these sizes, at no node and with no wait
+abbrev pub sized : ℕ → ℕ → ℕ → Status
+sized k m n = record { qifv = 0; qifw = 0; k = k; m = m; n = n }
+
 -- the status with another node and wait count
 abbrev pub withNode : Status → ℕ → ℕ → Status
 withNode at u j = record { qifv = u; qifw = j; k = at .k; m = at .m; n = at .n }
+
+-- and with a table of another n nodes
+abbrev pub withNodes : Status → ℕ → Status
+withNodes at n = record { qifv = at .qifv; qifw = at .qifw; k = at .k; m = at .m; n = n }
+
+-- the view at node v of n, with wait count j
+abbrev pub placed : ℕ → ℕ → ℕ → View → View
+placed n v j s = record { at = withNode (withNodes (s .at) n) v j; regs = s .regs; memory = s .memory }
 
 -- the first M lent words, and the first 9 N, are all that counts
 abbrev pub seen : Status → List ℕ → List ℕ → View

@@ -1,5 +1,8 @@
 // One instruction at a fixed pc, either way: what it would do, or why it is refused; and the lent
 // words that it reads and writes.
+ghost use mathlib.Core.Path.{_≡_};
+ghost use Rattle.step.specs.View.{sized, withNode, withNodes};
+
 pub mod lent;
 pub mod operation;
 pub mod perform;
@@ -14,6 +17,40 @@ pub struct Status {
     pub k: u32,
     pub m: u32,
     pub n: u32,
+}
+
+impl Status {
+    // Of these sizes, at no node and with no wait.
+    pub fn sized(k: u32, m: u32, n: u32) -> Status
+        ensures { λ r. ⌜ r ≡ sized k m n ⌝ }
+    {
+        Status {
+            qifv: 0,
+            qifw: 0,
+            k,
+            m,
+            n,
+        }
+    }
+
+    // At another node, with another wait count.
+    pub fn with_node(self, u: u32, j: u32) -> Status
+        ensures { λ r. ⌜ r ≡ withNode self u j ⌝ }
+    {
+        let mut next = self;
+        next.qifv = u;
+        next.qifw = j;
+        next
+    }
+
+    // With a table of another n nodes.
+    pub fn with_nodes(self, n: u32) -> Status
+        ensures { λ r. ⌜ r ≡ withNodes self n ⌝ }
+    {
+        let mut next = self;
+        next.n = n;
+        next
+    }
 }
 
 pub enum Direction {

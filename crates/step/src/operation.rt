@@ -7,7 +7,8 @@ ghost use lib.ListN.{getD, take};
 ghost use Rattle.word.specs.Word.{pick, subWord, withBit};
 ghost use Rattle.qins.specs.Decode.{operation, decode};
 ghost use Rattle.step.specs.View.{seen, nodes};
-ghost use Rattle.step.specs.Step.{shifted, refuse, whenReady, isAllowed, whenAllowed, whenCoin, child, enter, qif, pass, fiq, attempt};
+ghost use Rattle.word.specs.Refusal.{refuse};
+ghost use Rattle.step.specs.Step.{shifted, whenReady, isAllowed, whenAllowed, whenCoin, child, enter, qif, pass, fiq, attempt};
 use crate::Access;
 use crate::Attempt;
 use crate::Direction;
@@ -40,7 +41,7 @@ use word::signed::is_less;
 // ---- refusals
 
 pub fn refused_if(bad: bool, n: u32, rest: Attempt) -> Attempt
-    ensures { λ r. ⌜ r ≡ refuse bad n rest ⌝ }
+    ensures { λ r. ⌜ r ≡ refuse bad (Attempt.Refused n) rest ⌝ }
 {
     if bad { Attempt::Refused(n) } else { rest }
 }

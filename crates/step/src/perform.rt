@@ -5,7 +5,6 @@ ghost use mathlib.Core.Bool.{_&&_};
 ghost use lib.Dec.{eqb, ltb};
 ghost use lib.ListN.{length, getD, set, take, drop};
 ghost use Rattle.word.specs.Word.{pick};
-ghost use Rattle.step.specs.View.{withNode};
 ghost use Rattle.step.specs.Step.{written, noStore, storeOf, stored, marked};
 use crate::Effect;
 use crate::Status;
@@ -36,15 +35,6 @@ pub fn after(e: Effect, regs: &[u32], mem: &[u32], m: u32, j: usize) -> u32
     }
 }
 
-fn with_node(at: Status, u: u32, j: u32) -> Status
-    ensures { λ r. ⌜ r ≡ withNode at u j ⌝ }
-{
-    let mut next = at;
-    next.qifv = u;
-    next.qifw = j;
-    next
-}
-
 // The status as the effect leaves it.
 pub fn status_after(e: Effect, at: Status) -> Status
     ensures { λ r. ⌜ r ≡ marked e at ⌝ }
@@ -54,7 +44,7 @@ pub fn status_after(e: Effect, at: Status) -> Status
         Effect::Write(_a, _v) => at,
         Effect::WriteTwo(_a, _v, _b, _y) => at,
         Effect::SwapWord(_a, _i) => at,
-        Effect::SetNode(u, j) => with_node(at, u, j),
+        Effect::SetNode(u, j) => at.with_node(u, j),
     }
 }
 

@@ -9,5 +9,8 @@ pub is-instruction-spec : {M : Type 1} → statement M
 is-instruction-spec =
     tie.close
     (tie.spec
-    (λ c κs. search needs) (λ c. search needs) (λ c. search needs) (λ c κs. search needs)
-    (λ c. rw (c .before .before .forward .ensures .refusal, c .before .before .before .before .before .zero .ensures) (ap not (told-by-13 _))))
+    (λ c κs. search needs) (λ c κs. search needs) (λ c κs. search needs) (λ c. search needs) (λ c. search needs) (λ c κs. search needs)
+    (λ c.
+    let f = c .before .before in
+    let w = f .before .before .before in
+    rw (f .forward .ensures .refusal, w .with-status .ensures, w .before .sized .ensures, w .before .before .zero .ensures) (ap not (told-by-13 _))))

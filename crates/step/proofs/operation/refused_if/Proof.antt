@@ -3,7 +3,7 @@ use Rattle.step.proofs.operation.refused_if.Statement.{statement}
 use Rattle.step.proofs.operation.refused_if.Tie as tie
 
 pub refused-if-spec : {M : Type 1} → statement M
-unfolding Rattle.step.specs.Step.refuse
+unfolding Rattle.word.specs.Refusal.refuse
 refused-if-spec =
     tie.close
     (tie.spec
