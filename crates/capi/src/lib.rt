@@ -1,11 +1,12 @@
 // The calls for other programs: C functions over the proved ones, nothing of their own.
 ghost use mathlib.Core.Path.{_≡_};
 ghost use Rattle.step.specs.declared.Direction.{Direction};
+ghost use Rattle.machine.specs.Lent.{atEntry, atExit};
 ghost use Rattle.machine.specs.Machine.{machineOf};
 ghost use Rattle.machine.specs.Calls.{TurnPromise};
 ghost use Rattle.machine.specs.Batch.{BatchPromise};
 ghost use Rattle.machine.specs.Preview.{PreviewPromise};
-ghost use Rattle.wheel.specs.Wheel.{wheelOf, WheelPromise};
+ghost use Rattle.wheel.specs.Wheel.{countsOf, WheelPromise};
 ghost use lib.ListN.{length};
 ghost use Rattle.word.specs.Word.{pick};
 ghost use Rattle.qins.specs.Decode.{isInstruction};
@@ -80,7 +81,7 @@ pub extern "C" fn crank_samples(
     mem: &mut [u32],
     table: &[u32],
 ) -> Wheeled
-    ensures { λ a. ⌜ WheelPromise given (now (samples .entry)) (machineOf r (now (mem .entry)) (now (table .entry))) (wheelOf a (now (mem .exit)) (now (table .entry))) ⌝ }
+    ensures { λ a. ⌜ WheelPromise given (now (samples .entry)) (atEntry r mem table) (countsOf a) (atExit (a .state) mem table) ⌝ }
 {
     wheel::follow(r, given, samples, mem, table)
 }

@@ -63,7 +63,7 @@ turn-on {n = n} {d = d} t p = R.then-run Machine Accepts next Bounded turn-home 
 go-on : {x y z : Machine} {f b p q : ℕ} → Tour f b x y → Call y p q z → Tour (p + f) (q + b) x z
 go-on t (single d y z n p) = turn-on t p
 go-on t (batch d n y z k w p) = R.then-run Machine Accepts next Bounded turn-home d k t (p .bounds) (batch-run p)
-go-on {x = x} t (samples given l y w p) =
+go-on {x = x} t (samples given l y z c p) =
     by-turns (λ f b z. Tour f b x z) (λ d f b y z n u h. turn-on u h) t (call-turns given l y p)
 go-on {x = x} {f = f} {b = b} t (reads y h) = subst₂ (λ (i j : ℕ). Tour i j x y) (omega arith) (omega arith) t
 

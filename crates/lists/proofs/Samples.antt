@@ -7,14 +7,14 @@ use native.Mathlib.Omega.{arith}
 use lib.Dec.{eqb, ltb}
 use borrow.Author.Tests.{eqb-true, eqb-false}
 use Rattle.word.specs.Word.{pick}
+use Rattle.word.specs.Refusal.{refuse}
 use Rattle.step.specs.declared.Direction.{Direction}
 use Rattle.step.specs.declared.Direction.the-variants.{Forward, Back}
 use Rattle.step.specs.View.{byWay}
 use Rattle.machine.specs.Machine.{Machine, Bounded}
-use Rattle.machine.specs.Calls.{turnOf, memoryOf, TurnPromise, accepted, refusal, next}
-use Rattle.machine.specs.declared.Turned.{Turned}
+use Rattle.machine.specs.Calls.{TurnPromise, accepted, refusal, next}
 use Rattle.machine.proofs.Claims.{refused-keeps, turn-home}
-use Rattle.wheel.specs.Wheel.{steps, fault, Wheel, wheelOf, wheelOn, machineIn, started, ended, moved, taken, run, WheelPromise}
+use Rattle.wheel.specs.Wheel.{steps, fault, Counts, started, ended, Wheel, wheelAt, moved, taken, run, WheelPromise}
 use Rattle.lists.specs.Lists.{Left}
 use Rattle.lists.specs.Lists.Call.{single}
 use Rattle.lists.specs.Lists.Left.{empty, then}
@@ -36,51 +36,40 @@ record Went (ds : List Direction) (w w′ : Wheel) : Type 0 where
   f : ℕ
   b : ℕ
   n : ℕ
-  turns : Turns ds (machineIn w) f b n (machineIn w′)
-  forward : w′ .answer .forward ≡ w .answer .forward + f
-  back : w′ .answer .back ≡ w .answer .back + b
-  refused : w′ .answer .refused ≡ w .answer .refused + n
+  turns : Turns ds (w .machine) f b n (w′ .machine)
+  forward : w′ .counts .forward ≡ w .counts .forward + f
+  back : w′ .counts .back ≡ w .counts .back + b
+  refused : w′ .counts .refused ≡ w .counts .refused + n
 
-stood : (w : Wheel) (n : ℕ) → Went [] w (wheelOn (machineIn w) (ended n (w .answer)))
+stood : (w : Wheel) (n : ℕ) → Went [] w (wheelAt (ended n (w .counts)) (w .machine))
 stood w n = record { f = 0; b = 0; n = 0; turns = none; forward = omega arith; back = omega arith; refused = omega arith }
 
-module _ (s : ℕ) (w : Wheel) (g : Bounded (machineIn w)) where
+module _ (s : ℕ) (w : Wheel) (g : Bounded (w .machine)) where
   abbrev x : Machine
-  x = machineIn w
+  x = w .machine
 
-  -- at the sample s, after a turn that answered t, of which f count forward and b back
-  abbrev by : Turned → ℕ → ℕ → List ℕ → Wheel
-  by t f b mem =
-      wheelOf
-      (record {
-        forward = w .answer .forward + f;
-        back = w .answer .back + b;
-        refused = w .answer .refused + (1 - accepted (t .refusal));
-        last = s;
-        refusal = 0;
-        state = t .state;
-      })
-      mem (w .table)
+  -- at the sample s, after a turn that was refused by i or not, of which f count forward and b back, and that left y
+  abbrev by : ℕ → ℕ → ℕ → Machine → Wheel
+  by i f b y =
+      wheelAt (record { forward = w .counts .forward + f; back = w .counts .back + b; refused = w .counts .refused + (1 - accepted i); last = s; refusal = 0 }) y
 
   -- forward where f holds, back where b does: what moves the wheel by k steps, with its tests of k as f and b
-  abbrev answer : Bool → Bool → Turned
-  answer f b = pick f (turnOf Forward x) (pick b (turnOf Back x) (record { refusal = 0; state = x .state }))
+  abbrev answer : Bool → Bool → ℕ
+  answer f b = pick f (refusal Forward x) (pick b (refusal Back x) 0)
 
   abbrev to : Bool → Bool → Wheel
-  to f b =
-      by (answer f b) (pick f (accepted (answer f b .refusal)) 0) (pick b (accepted (answer f b .refusal)) 0)
-      (pick f (memoryOf Forward x) (pick b (memoryOf Back x) (w .memory)))
+  to f b = by (answer f b) (pick f (accepted (answer f b)) 0) (pick b (accepted (answer f b)) 0) (pick f (next Forward x) (pick b (next Back x) x))
 
-  to-bounded : (f b : Bool) → Bounded (machineIn (to f b))
+  to-bounded : (f b : Bool) → Bounded (to f b .machine)
   to-bounded true b = next-bounded Forward x g
   to-bounded false true = next-bounded Back x g
   to-bounded false false = g
 
   abbrev count : Direction → ℕ
-  count d = accepted (turnOf d x .refusal)
+  count d = accepted (refusal d x)
 
   one-turn : (d : Direction) {ds : List Direction} {w′ : Wheel}
-      → Went ds (by (turnOf d x) (byWay d (count d) 0) (byWay d 0 (count d)) (memoryOf d x)) w′ → Went (d ∷ ds) w w′
+      → Went ds (by (refusal d x) (byWay d (count d) 0) (byWay d 0 (count d)) (next d x)) w′ → Went (d ∷ ds) w w′
   one-turn d m =
       record {
         f = byWay d (count d) 0 + m .f;
@@ -111,41 +100,41 @@ module _ (s : ℕ) (w : Wheel) (g : Bounded (machineIn w)) where
   went false true h m = one-turn Back m
   went false false h m = no-turn m
 
-run-went : (l : List ℕ) (w : Wheel) → Bounded (machineIn w) → Went (named (w .answer .last) l) w (run l w)
+run-went : (l : List ℕ) (w : Wheel) → Bounded (w .machine) → Went (named (w .counts .last) l) w (run l w)
 unfolding run named taken
 run-went [] w g = record { f = 0; b = 0; n = 0; turns = none; forward = omega arith; back = omega arith; refused = omega arith }
-run-went (s ∷ rest) w g = go (run-went rest (moved k s w) (to-bounded s w g (eqb k 1) (eqb k 3))) (eqb (fault (w .answer .last) s) 0) refl
+run-went (s ∷ rest) w g = go (run-went rest (moved k s w) (to-bounded s w g (eqb k 1) (eqb k 3))) (eqb (fault (w .counts .last) s) 0) refl
   where
     k : ℕ
-    k = steps (w .answer .last) s
+    k = steps (w .counts .last) s
 
-    go : Went (named s rest) (moved k s w) (run rest (moved k s w)) → (c : Bool) → eqb (fault (w .answer .last) s) 0 ≡ c
-        → Went (named (w .answer .last) (s ∷ rest)) w (run (s ∷ rest) w)
+    go : Went (named s rest) (moved k s w) (run rest (moved k s w)) → (c : Bool) → eqb (fault (w .counts .last) s) 0 ≡ c
+        → Went (named (w .counts .last) (s ∷ rest)) w (run (s ∷ rest) w)
     go m true e = rw e (went s w g (eqb k 1) (eqb k 3) (λ p q. omega (arith, eqb-true k 1 p, eqb-true k 3 q)) m)
-    go m false e = rw e (rw e (stood w (fault (w .answer .last) s)))
+    go m false e = rw e (rw e (stood w (fault (w .counts .last) s)))
 
 -- ---- a call
 
 module _ (given : ℕ) (l : List ℕ) (x : Machine) where
   abbrev first : Wheel
-  first = wheelOn x (started given (x .state))
+  first = wheelAt (started given) x
 
   abbrev end : Bool → Wheel
-  end b = pick b (wheelOn x (ended 20 (first .answer))) (run l first)
+  end b = refuse b (wheelAt (ended 20 (started given)) x) (run l first)
 
   -- b: the given sample is above 3
   abbrev Makes : Bool → Wheel → Type 0
-  Makes b w = Turns (pick b [] (named given l)) x (w .answer .forward) (w .answer .back) (w .answer .refused) (machineIn w)
+  Makes b w = Turns (refuse b [] (named given l)) x (w .counts .forward) (w .counts .back) (w .counts .refused) (w .machine)
 
   makes : Bounded x → (b : Bool) → Makes b (end b)
+  unfolding refuse
   makes g true = none
   makes g false =
       let m = run-went l first g in
-      subst₃ (λ (f b n : ℕ). Turns (named given l) x f b n (machineIn (end false)))
+      subst₃ (λ (f b n : ℕ). Turns (named given l) x f b n (end false .machine))
       (omega (arith, m .forward)) (omega (arith, m .back)) (omega (arith, m .refused)) (m .turns)
 
-  pub call-turns : {w : Wheel} → WheelPromise given l x w
-      → Turns (namedBy given l) x (w .answer .forward) (w .answer .back) (w .answer .refused) (machineIn w)
+  pub call-turns : {c : Counts} {y : Machine} → WheelPromise given l x c y → Turns (namedBy given l) x (c .forward) (c .back) (c .refused) y
   call-turns p = subst (Makes (ltb 3 given)) (sym (p .left)) (makes (p .bounds) (ltb 3 given))
 
 -- ---- what goes on by single turns goes on by a list of them
@@ -161,7 +150,7 @@ module _ (P : ℕ → ℕ → Machine → Type 0)
 pub samples-are-turns : SamplesAreTurns
 samples-are-turns =
     record {
-      turns = λ given l x w p. call-turns given l x p;
+      turns = λ given l x y c p. call-turns given l x p;
       left = λ ds x y f b n t.
           subst₂ (λ (i j : ℕ). Left x i j y) (omega arith) (omega arith)
           (by-turns (λ i j z. Left x i j z) (λ d i j z y n u h. then u (single d z y n h)) empty t);

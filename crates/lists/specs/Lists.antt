@@ -11,7 +11,7 @@ use Rattle.machine.specs.Calls.{TurnPromise, accepted, Leads}
 use Rattle.machine.specs.Batch.{BatchPromise}
 use Rattle.machine.specs.Preview.{PreviewPromise}
 use Rattle.machine.specs.declared.Preview.{Preview}
-use Rattle.wheel.specs.Wheel.{Wheel, machineIn, WheelPromise}
+use Rattle.wheel.specs.Wheel.{Counts, WheelPromise}
 
 -- ---- Left: a list of calls
 
@@ -25,8 +25,7 @@ pub data Reading (x : Machine) : Type 0 where
 pub data Call : Machine → ℕ → ℕ → Machine → Type 0 where
   single : (d : Direction) (x y : Machine) (n : ℕ) → TurnPromise d x n y → Call x (byWay d (accepted n) 0) (byWay d 0 (accepted n)) y
   batch : (d : Direction) (n : ℕ) (x y : Machine) (k w : ℕ) → BatchPromise d n x k w y → Call x (byWay d k 0) (byWay d 0 k) y
-  samples : (given : ℕ) (l : List ℕ) (x : Machine) (w : Wheel) → WheelPromise given l x w
-      → Call x (w .answer .forward) (w .answer .back) (machineIn w)
+  samples : (given : ℕ) (l : List ℕ) (x y : Machine) (c : Counts) → WheelPromise given l x c y → Call x (c .forward) (c .back) y
   reads : (x : Machine) → Reading x → Call x 0 0 x
 
 -- Calls from x to y, each on what the last one left, with all accepted turns forward, f, and back, b. The list may be empty.

@@ -3,26 +3,27 @@ use Prim.Native.Nat.{ℕ, _+_, _-_}
 use mathlib.Core.List.{List, [], _∷_, _++_}
 use lib.Dec.{eqb, ltb}
 use Rattle.word.specs.Word.{pick}
+use Rattle.word.specs.Refusal.{refuse}
 use Rattle.step.specs.declared.Direction.{Direction}
 use Rattle.step.specs.declared.Direction.the-variants.{Forward, Back}
 use Rattle.step.specs.View.{byWay}
 use Rattle.machine.specs.Machine.{Machine}
 use Rattle.machine.specs.Calls.{TurnPromise, accepted}
-use Rattle.wheel.specs.Wheel.{steps, fault, Wheel, machineIn, WheelPromise}
+use Rattle.wheel.specs.Wheel.{steps, fault, Counts, WheelPromise}
 use Rattle.lists.specs.Lists.{Left}
 
 -- the turn that k steps along the circle stand for, if they stand for one
 abbrev pub turnsOf : ℕ → List Direction
 turnsOf k = pick (eqb k 1) (Forward ∷ []) (pick (eqb k 3) (Back ∷ []) [])
 
--- the turns that samples name behind the sample p, up to the first that ends the call
+-- the turns that samples name after the sample p, up to the first that ends the call
 unfoldable pub named : ℕ → List ℕ → List Direction
 named p [] = []
 named p (s ∷ rest) = pick (eqb (fault p s) 0) (turnsOf (steps p s) ++ named s rest) []
 
--- and behind the given one, none where that is above 3
+-- and after the given one, none where that is above 3
 abbrev pub namedBy : ℕ → List ℕ → List Direction
-namedBy given l = pick (ltb 3 given) [] (named given l)
+namedBy given l = refuse (ltb 3 given) [] (named given l)
 
 -- Single turns in these directions, each on what the last one left, with what each promises: how many are accepted forward
 -- and back, and how many refused.
@@ -34,6 +35,6 @@ pub data Turns : List Direction → Machine → ℕ → ℕ → ℕ → Machine 
 -- The counts that a sample call answers, and the machine that it leaves, are those of the single turns that its samples
 -- name; and these are a list of Left's.
 pub record SamplesAreTurns : Type 0 where
-  pub turns : (given : ℕ) (l : List ℕ) (x : Machine) (w : Wheel) → WheelPromise given l x w
-      → Turns (namedBy given l) x (w .answer .forward) (w .answer .back) (w .answer .refused) (machineIn w)
+  pub turns : (given : ℕ) (l : List ℕ) (x y : Machine) (c : Counts) → WheelPromise given l x c y
+      → Turns (namedBy given l) x (c .forward) (c .back) (c .refused) y
   pub left : (ds : List Direction) (x y : Machine) (f b n : ℕ) → Turns ds x f b n y → Left x f b y

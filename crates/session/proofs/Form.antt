@@ -40,7 +40,7 @@ use Rattle.machine.proofs.Batch.Laws as S′
 use Rattle.wheel.proofs.Wheeled as G
 use Rattle.wheel.proofs.Wheeled.Laws as G′
 use Rattle.session.specs.declared.Bench.{Bench}
-use Rattle.session.specs.Bench.{benchOf, sampledOn}
+use Rattle.session.specs.Bench.{benchOf}
 use Rattle.session.proofs.Cranked as K
 use Rattle.session.proofs.Cranked.Laws as K′
 use Rattle.session.proofs.Sampled as P
@@ -249,7 +249,7 @@ is-result samples t vs is =
 abbrev pub together : (F : Form) → Bench → row F .Denot → Answer F
 together turn h r = record { refusal = r; state = h .state }
 together batch h r = record { turns = r .turns; refusal = r .refusal; state = h .state }
-together samples h r = sampledOn h r
+together samples h r = record { forward = r .forward; back = r .back; refused = r .refused; last = r .last; refusal = r .refusal; state = h .state }
 
 pub together-is : (F : Form) (t : Answer F) → t ≡ together F (benchOf (state F t)) (result F t)
 together-is turn t = refl

@@ -1,8 +1,7 @@
 -- A call on the bench is a call of a list, since it is the call by value. Assumes nothing.
 use Rattle.lists.specs.Lists.Call.{single, batch, samples, reads}
 use Rattle.lists.specs.Lists.Reading.{preview}
-use Rattle.wheel.specs.Wheel.{wheelOf}
-use Rattle.session.specs.Bench.{machineOn, sampledOn}
+use Rattle.session.specs.Bench.{machineOn, countsIn}
 use Rattle.session.specs.Claims.{OnLists}
 
 pub on-lists : OnLists
@@ -10,6 +9,6 @@ on-lists =
     record {
       turn = λ d table b b′ mem mem′ r h. single d (machineOn b mem table) (machineOn b′ mem′ table) r h;
       batch = λ d n table b b′ mem mem′ r h. batch d n (machineOn b mem table) (machineOn b′ mem′ table) (r .turns) (r .refusal) h;
-      samples = λ given l table b b′ mem mem′ r h. samples given l (machineOn b mem table) (wheelOf (sampledOn b′ r) mem′ table) h;
+      samples = λ given l table b b′ mem mem′ r h. samples given l (machineOn b mem table) (machineOn b′ mem′ table) (countsIn r) h;
       preview = λ d table b mem p h. reads (machineOn b mem table) (preview d p h);
     }

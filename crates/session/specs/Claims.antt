@@ -8,9 +8,9 @@ use Rattle.machine.specs.Calls.{TurnPromise, accepted}
 use Rattle.machine.specs.Batch.{BatchPromise}
 use Rattle.machine.specs.Preview.{PreviewPromise}
 use Rattle.machine.specs.declared.Preview.{Preview}
-use Rattle.wheel.specs.Wheel.{wheelOf, WheelPromise}
+use Rattle.wheel.specs.Wheel.{WheelPromise}
 use Rattle.lists.specs.Lists.{Call}
-use Rattle.session.specs.Bench.{machineOn, sampledOn}
+use Rattle.session.specs.Bench.{machineOn, countsIn}
 use Rattle.session.specs.declared.Bench.{Bench}
 use Rattle.session.specs.declared.Cranked.{Cranked}
 use Rattle.session.specs.declared.Sampled.{Sampled}
@@ -22,7 +22,7 @@ pub record OnLists : Type 0 where
       → BatchPromise d n (machineOn b mem table) (r .turns) (r .refusal) (machineOn b′ mem′ table)
       → Call (machineOn b mem table) (byWay d (r .turns) 0) (byWay d 0 (r .turns)) (machineOn b′ mem′ table)
   pub samples : (given : ℕ) (l : List ℕ) (table : List ℕ) (b b′ : Bench) (mem mem′ : List ℕ) (r : Sampled)
-      → WheelPromise given l (machineOn b mem table) (wheelOf (sampledOn b′ r) mem′ table) → Call (machineOn b mem table) (r .forward) (r .back) (machineOn b′ mem′ table)
+      → WheelPromise given l (machineOn b mem table) (countsIn r) (machineOn b′ mem′ table) → Call (machineOn b mem table) (r .forward) (r .back) (machineOn b′ mem′ table)
   -- a preview by value, with the record in the bench
   pub preview : (d : Direction) (table : List ℕ) (b : Bench) (mem : List ℕ) (p : Preview) → PreviewPromise d (machineOn b mem table) p
       → Call (machineOn b mem table) 0 0 (machineOn b mem table)

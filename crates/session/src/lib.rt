@@ -3,8 +3,8 @@
 ghost use Rattle.step.specs.declared.Direction.{Direction};
 ghost use Rattle.machine.specs.Calls.{TurnPromise};
 ghost use Rattle.machine.specs.Batch.{BatchPromise};
-ghost use Rattle.wheel.specs.Wheel.{wheelOf, WheelPromise};
-ghost use Rattle.session.specs.Bench.{machineOn, sampledOn};
+ghost use Rattle.wheel.specs.Wheel.{WheelPromise};
+ghost use Rattle.session.specs.Bench.{benchAtEntry, benchAtExit, countsIn};
 use machine::Record;
 
 #[repr(C)]
@@ -33,7 +33,7 @@ pub struct Sampled {
 // One turn forward; the answer is its refusal, 0 for none.
 #[no_mangle]
 pub extern "C" fn bench_forward(b: &mut Bench, mem: &mut [u32], table: &[u32]) -> u32
-    ensures { λ r. ⌜ TurnPromise Direction.Forward (machineOn (now (b .entry)) (now (mem .entry)) (now (table .entry))) r (machineOn (now (b .exit)) (now (mem .exit)) (now (table .entry))) ⌝ }
+    ensures { λ r. ⌜ TurnPromise Direction.Forward (benchAtEntry b mem table) r (benchAtExit b mem table) ⌝ }
 {
     let r = b.state;
     let t = r.forward(mem, table);
@@ -44,7 +44,7 @@ pub extern "C" fn bench_forward(b: &mut Bench, mem: &mut [u32], table: &[u32]) -
 // One turn back.
 #[no_mangle]
 pub extern "C" fn bench_back(b: &mut Bench, mem: &mut [u32], table: &[u32]) -> u32
-    ensures { λ r. ⌜ TurnPromise Direction.Back (machineOn (now (b .entry)) (now (mem .entry)) (now (table .entry))) r (machineOn (now (b .exit)) (now (mem .exit)) (now (table .entry))) ⌝ }
+    ensures { λ r. ⌜ TurnPromise Direction.Back (benchAtEntry b mem table) r (benchAtExit b mem table) ⌝ }
 {
     let r = b.state;
     let t = r.back(mem, table);
@@ -60,7 +60,7 @@ pub extern "C" fn bench_forward_batch(
     mem: &mut [u32],
     table: &[u32],
 ) -> Cranked
-    ensures { λ r. ⌜ BatchPromise Direction.Forward n (machineOn (now (b .entry)) (now (mem .entry)) (now (table .entry))) (r .turns) (r .refusal) (machineOn (now (b .exit)) (now (mem .exit)) (now (table .entry))) ⌝ }
+    ensures { λ r. ⌜ BatchPromise Direction.Forward n (benchAtEntry b mem table) (r .turns) (r .refusal) (benchAtExit b mem table) ⌝ }
 {
     let r = b.state;
     let t = r.forward_batch(n, mem, table);
@@ -74,7 +74,7 @@ pub extern "C" fn bench_forward_batch(
 // n turns back, likewise.
 #[no_mangle]
 pub extern "C" fn bench_back_batch(b: &mut Bench, n: u32, mem: &mut [u32], table: &[u32]) -> Cranked
-    ensures { λ r. ⌜ BatchPromise Direction.Back n (machineOn (now (b .entry)) (now (mem .entry)) (now (table .entry))) (r .turns) (r .refusal) (machineOn (now (b .exit)) (now (mem .exit)) (now (table .entry))) ⌝ }
+    ensures { λ r. ⌜ BatchPromise Direction.Back n (benchAtEntry b mem table) (r .turns) (r .refusal) (benchAtExit b mem table) ⌝ }
 {
     let r = b.state;
     let t = r.back_batch(n, mem, table);
@@ -94,7 +94,7 @@ pub extern "C" fn bench_samples(
     mem: &mut [u32],
     table: &[u32],
 ) -> Sampled
-    ensures { λ r. ⌜ WheelPromise given (now (samples .entry)) (machineOn (now (b .entry)) (now (mem .entry)) (now (table .entry))) (wheelOf (sampledOn (now (b .exit)) r) (now (mem .exit)) (now (table .entry))) ⌝ }
+    ensures { λ r. ⌜ WheelPromise given (now (samples .entry)) (benchAtEntry b mem table) (countsIn r) (benchAtExit b mem table) ⌝ }
 {
     let r = b.state;
     let t = wheel::follow(r, given, samples, mem, table);

@@ -6,26 +6,23 @@ use mathlib.Core.List.{[], _∷_}
 use native.Mathlib.Omega.{arith}
 use lib.Dec.{ltb}
 use borrow.Author.Tests.{lt-ltb}
-use Rattle.word.specs.Word.{pick, subWord}
+use Rattle.word.specs.Word.{subWord}
 use Rattle.step.specs.declared.Direction.{Direction}
 use Rattle.step.specs.declared.Direction.the-variants.{Forward, Back}
 use Rattle.step.specs.View.{byWay}
 use Rattle.machine.specs.Machine.{Machine}
-use Rattle.machine.specs.Calls.{turnOf, memoryOf, accepted}
-use Rattle.machine.specs.declared.Turned.{Turned}
-use Rattle.wheel.specs.Wheel.{Wheel, wheelOf, wheelOn, started, ended, taken, run}
+use Rattle.machine.specs.Calls.{refusal, next, accepted}
+use Rattle.word.specs.Refusal.{refuse}
+use Rattle.wheel.specs.Wheel.{started, ended, Wheel, wheelAt, taken, run}
 use Rattle.wheel.specs.Claims.{Rests, Ends, Circle}
 
 -- the counts of one turn, from 0 on
 module _ (d : Direction) (s : ℕ) (x : Machine) where
-  abbrev t : Turned
-  t = turnOf d x
-
   abbrev n : ℕ
-  n = accepted (t .refusal)
+  n = accepted (refusal d x)
 
   abbrev counts : ℕ → ℕ → ℕ → Wheel
-  counts f b c = wheelOf (record { forward = f; back = b; refused = c; last = s; refusal = 0; state = t .state }) (memoryOf d x) (x .table)
+  counts f b c = wheelAt (record { forward = f; back = b; refused = c; last = s; refusal = 0 }) (next d x)
 
   zero-add : (m : ℕ) → 0 + m ≡ m
   zero-add m = omega arith
@@ -34,7 +31,7 @@ module _ (d : Direction) (s : ℕ) (x : Machine) where
   moves = λ j. counts (zero-add (byWay d n 0) j) (zero-add (byWay d 0 n) j) (zero-add (1 - n) j)
 
 still : (s : ℕ) → s ≤ 3 → Rests s
-unfolding subWord taken run
+unfolding refuse subWord taken run
 still zero h = λ x. refl
 still (suc zero) h = λ x. refl
 still (suc (suc zero)) h = λ x. refl
@@ -42,24 +39,24 @@ still (suc (suc (suc zero))) h = λ x. refl
 still (suc (suc (suc (suc s)))) h = absurd (omega arith)
 
 above : (p s : ℕ) → 3 < s → Ends 20 p s
-unfolding taken run
+unfolding refuse taken run
 above p s h x = go (ltb 3 p)
   where
     first : Wheel
-    first = wheelOn x (started p (x .state))
+    first = wheelAt (started p) x
 
     over : Wheel
-    over = wheelOn x (ended 20 (started p (x .state)))
+    over = wheelAt (ended 20 (started p)) x
 
     ran : run (s ∷ []) first ≡ over
     ran = rw (lt-ltb 3 s h) refl
 
-    go : (b : Bool) → pick b over (run (s ∷ []) first) ≡ over
+    go : (b : Bool) → refuse b over (run (s ∷ []) first) ≡ over
     go true = refl
     go false = ran
 
 pub circle : Circle
-unfolding subWord taken run
+unfolding refuse subWord taken run
 circle =
     record {
       cycle = ((moves Forward 1, moves Back 0), (moves Forward 3, moves Back 1), (moves Forward 2, moves Back 3), (moves Forward 0, moves Back 2));

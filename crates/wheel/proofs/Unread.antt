@@ -1,4 +1,4 @@
--- A list that is refused: what stands behind it changes nothing. Assumes nothing.
+-- A list that is refused: what comes after it changes nothing. Assumes nothing.
 use Prim.Native.Nat.{ℕ}
 use mathlib.Core.Path.{_≡_, refl, ap, _∙_}
 use mathlib.Core.Logic.{_≢_}
@@ -7,11 +7,12 @@ use mathlib.Core.List.{List, [], _∷_, _++_}
 use lib.Dec.{eqb, ltb}
 use borrow.Author.Tests.{eqb-true}
 use Rattle.word.specs.Word.{pick}
-use Rattle.wheel.specs.Wheel.{Wheel, wheelOn, started, ended, taken, run}
+use Rattle.word.specs.Refusal.{refuse}
+use Rattle.wheel.specs.Wheel.{started, ended, Wheel, wheelAt, taken, run}
 use Rattle.wheel.specs.Claims.{Unread}
 
 abbrev refusal : Wheel → ℕ
-refusal w = w .answer .refusal
+refusal w = w .counts .refusal
 
 run-ended : (m l : List ℕ) (w : Wheel) → refusal w ≡ 0 → refusal (run l w) ≢ 0 → run l w ≡ run (l ++ m) w
 unfolding run
@@ -27,14 +28,15 @@ run-ended m (s ∷ rest) w z h = go (run-ended m rest t) (eqb (refusal t) 0) ref
     go f false e n = refl
 
 pub unread : Unread
-unread given l m x w p h = record { left = p .left ∙ go (ltb 3 given) (λ e. h (ap refusal (p .left) ∙ e)); bounds = p .bounds }
+unfolding refuse
+unread given l m x y c p h = record { left = p .left ∙ go (ltb 3 given) (λ e. h (ap refusal (p .left) ∙ e)); bounds = p .bounds }
   where
     first : Wheel
-    first = wheelOn x (started given (x .state))
+    first = wheelAt (started given) x
 
     over : Wheel
-    over = wheelOn x (ended 20 (started given (x .state)))
+    over = wheelAt (ended 20 (started given)) x
 
-    go : (b : Bool) → refusal (pick b over (run l first)) ≢ 0 → pick b over (run l first) ≡ pick b over (run (l ++ m) first)
+    go : (b : Bool) → refusal (refuse b over (run l first)) ≢ 0 → refuse b over (run l first) ≡ refuse b over (run (l ++ m) first)
     go true n = refl
     go false n = run-ended m l first refl n

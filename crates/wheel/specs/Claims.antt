@@ -5,13 +5,13 @@ use mathlib.Core.Logic.{_≢_}
 use mathlib.Core.List.{List, [], _∷_, _++_}
 use lib.Dec.{eqb, ltb}
 use Rattle.word.specs.Word.{pick}
+use Rattle.word.specs.Refusal.{refuse}
 use Rattle.step.specs.declared.Direction.{Direction}
 use Rattle.step.specs.declared.Direction.the-variants.{Forward, Back}
 use Rattle.step.specs.View.{byWay}
 use Rattle.machine.specs.Machine.{Machine}
-use Rattle.machine.specs.Calls.{turnOf, memoryOf, accepted}
-use Rattle.wheel.specs.Wheel.{fault, Wheel, wheelOf, wheelOn, machineIn, started, ended, followOf, WheelPromise}
-use Rattle.wheel.specs.declared.Wheeled.{Wheeled}
+use Rattle.machine.specs.Calls.{refusal, next, accepted}
+use Rattle.wheel.specs.Wheel.{fault, Counts, wheelAt, started, ended, followOf, WheelPromise}
 
 -- ---- what a call with one sample comes to, in terms of the turns alone
 
@@ -19,17 +19,16 @@ use Rattle.wheel.specs.declared.Wheeled.{Wheeled}
 abbrev pub Moves : Direction → ℕ → ℕ → Type 0
 Moves d p s =
     (x : Machine)
-    → (let t = turnOf d x in let n = accepted (t .refusal) in
-    followOf p (s ∷ []) x
-    ≡ wheelOf (record { forward = byWay d n 0; back = byWay d 0 n; refused = 1 - n; last = s; refusal = 0; state = t .state }) (memoryOf d x) (x .table))
+    → (let n = accepted (refusal d x) in
+    followOf p (s ∷ []) x ≡ wheelAt (record { forward = byWay d n 0; back = byWay d 0 n; refused = 1 - n; last = s; refusal = 0 }) (next d x))
 
 -- given s, the same once more turns and counts nothing
 abbrev pub Rests : ℕ → Type 0
-Rests s = (x : Machine) → followOf s (s ∷ []) x ≡ wheelOn x (started s (x .state))
+Rests s = (x : Machine) → followOf s (s ∷ []) x ≡ wheelAt (started s) x
 
 -- given p, the sample s ends the call by n: nothing is turned, and p is the last sample
 abbrev pub Ends : ℕ → ℕ → ℕ → Type 0
-Ends n p s = (x : Machine) → followOf p (s ∷ []) x ≡ wheelOn x (ended n (started p (x .state)))
+Ends n p s = (x : Machine) → followOf p (s ∷ []) x ≡ wheelAt (ended n (started p)) x
 
 -- s comes after p in the forward cycle: from p to s is a turn forward, from s to p one back
 abbrev pub Follows : ℕ → ℕ → Type 0
@@ -45,30 +44,19 @@ pub record Circle : Type 0 where
 
 -- ---- lists of samples
 
--- the answers of two calls, one behind the other, as one, on what the second left
-abbrev pub joined : Wheeled → Wheeled → Wheeled
+-- the counts of two calls, one after the other, as one
+abbrev pub joined : Counts → Counts → Counts
 joined a b =
-    record {
-      forward = a .forward + b .forward;
-      back = a .back + b .back;
-      refused = a .refused + b .refused;
-      last = b .last;
-      refusal = b .refusal;
-      state = b .state;
-    }
-
-abbrev pub behind : Wheeled → Wheel → Wheel
-behind a w = wheelOn (machineIn w) (joined a (w .answer))
+    record { forward = a .forward + b .forward; back = a .back + b .back; refused = a .refused + b .refused; last = b .last; refusal = b .refusal }
 
 -- A list may be cut: where the first call is not refused, a second one that is given its last sample, on what it left, comes
 -- with it to what one call of the whole list does. Proved in proofs/Cut.
 abbrev pub Cut : Type 0
 Cut =
-    (given : ℕ) (l m : List ℕ) (x : Machine) (v w : Wheel)
-    → WheelPromise given l x v → v .answer .refusal ≡ 0 → WheelPromise (v .answer .last) m (machineIn v) w
-    → WheelPromise given (l ++ m) x (behind (v .answer) w)
+    (given : ℕ) (l m : List ℕ) (x y z : Machine) (a b : Counts)
+    → WheelPromise given l x a y → a .refusal ≡ 0 → WheelPromise (a .last) m y b z → WheelPromise given (l ++ m) x (joined a b) z
 
--- the last sample of a list behind p, and the refusal that ends it
+-- the last sample of a list after p, and the refusal that ends it
 unfoldable pub endOf : ℕ → List ℕ → ℕ × ℕ
 endOf p [] = (p, 0)
 endOf p (s ∷ rest) = pick (eqb (fault p s) 0) (endOf s rest) (p, fault p s)
@@ -76,11 +64,10 @@ endOf p (s ∷ rest) = pick (eqb (fault p s) 0) (endOf s rest) (p, fault p s)
 -- Both are told by the samples alone, whatever the machine is and refuses. Proved in proofs/Alone.
 abbrev pub SamplesAlone : Type 0
 SamplesAlone =
-    (given : ℕ) (l : List ℕ) (x : Machine) (w : Wheel)
-    → WheelPromise given l x w → (w .answer .last, w .answer .refusal) ≡ pick (ltb 3 given) (given, 20) (endOf given l)
+    (given : ℕ) (l : List ℕ) (x y : Machine) (c : Counts)
+    → WheelPromise given l x c y → (c .last, c .refusal) ≡ refuse (ltb 3 given) (given, 20) (endOf given l)
 
--- What stands behind the sample that ended a call is not looked at: a longer list comes to the same. Proved in proofs/Unread.
+-- What stands after the sample that ended a call is not looked at: a longer list comes to the same. Proved in proofs/Unread.
 abbrev pub Unread : Type 0
 Unread =
-    (given : ℕ) (l m : List ℕ) (x : Machine) (w : Wheel)
-    → WheelPromise given l x w → w .answer .refusal ≢ 0 → WheelPromise given (l ++ m) x w
+    (given : ℕ) (l m : List ℕ) (x y : Machine) (c : Counts) → WheelPromise given l x c y → c .refusal ≢ 0 → WheelPromise given (l ++ m) x c y

@@ -2,8 +2,8 @@
 ghost use mathlib.Core.Path.{_≡_};
 ghost use Prim.Native.Nat.{_+_, _^_, _<_, _≤_};
 ghost use Rattle.word.specs.Word.{pick};
-ghost use Rattle.machine.specs.Machine.{machineOf};
-ghost use Rattle.wheel.specs.Wheel.{place, steps, fault, wheelOf, counted, taken, WheelPromise};
+ghost use Rattle.machine.specs.Lent.{atEntry, atExit};
+ghost use Rattle.wheel.specs.Wheel.{place, steps, fault, countsOf, counted, wheelAt, taken, WheelPromise};
 use machine::Record;
 use machine::Turned;
 use word::choose;
@@ -28,7 +28,7 @@ fn only_if(test: bool, n: u64) -> u64
     if test { n } else { 0 }
 }
 
-// ---- a sample behind another
+// ---- a sample after another
 
 fn place_of(s: u32) -> u32
     ensures { λ r. ⌜ r ≡ place s ⌝ }
@@ -45,7 +45,13 @@ fn steps_to(p: u32, s: u32) -> u32
 fn fault_at(p: u32, s: u32) -> u32
     ensures { λ r. ⌜ r ≡ fault p s ⌝ }
 {
-    choose(3 < s, 20, choose(steps_to(p, s) == 2, 19, 0))
+    if 3 < s {
+        return 20;
+    }
+    if steps_to(p, s) == 2 {
+        return 19;
+    }
+    0
 }
 
 // ---- the samples of a call
@@ -53,7 +59,7 @@ fn fault_at(p: u32, s: u32) -> u32
 // The counts have room: together they are at most the samples taken.
 fn count(k: u32, s: u32, t: Turned, w: Wheeled) -> Wheeled
     requires { ⌜ w .forward + w .back + w .refused + 1 < 2 ^ 64 ⌝ }
-    ensures { λ r. ⌜ r ≡ counted k s t w ⌝ }
+    ensures { λ r. ⌜ (countsOf r ≡ counted k s (t .refusal) (countsOf w)) × (r .state ≡ t .state) ⌝ }
 {
     let accepted = only_if(t.refusal == 0, 1);
     let state = t.state;
@@ -67,10 +73,10 @@ fn count(k: u32, s: u32, t: Turned, w: Wheeled) -> Wheeled
     }
 }
 
-// Counted in each branch by itself: with one count behind all three, a turn's record is copied once more.
+// Counted in each branch by itself: with one count after all three, a turn's record is copied once more.
 fn take(s: u32, w: Wheeled, mem: &mut [u32], table: &[u32]) -> Wheeled
     requires { ⌜ w .forward + w .back + w .refused + 1 < 2 ^ 64 ⌝ }
-    ensures { λ r. ⌜ wheelOf r (now (mem .exit)) (now (table .entry)) ≡ taken s (wheelOf w (now (mem .entry)) (now (table .entry))) ⌝ }
+    ensures { λ r. ⌜ wheelAt (countsOf r) (atExit (r .state) mem table) ≡ taken s (wheelAt (countsOf w) (atEntry (w .state) mem table)) ⌝ }
 {
     let n = fault_at(w.last, s);
     if n != 0 {
@@ -97,7 +103,7 @@ fn take(s: u32, w: Wheeled, mem: &mut [u32], table: &[u32]) -> Wheeled
 
 // Turns the machine as the samples say, up to the first that ends the call.
 pub fn follow(r: Record, given: u8, samples: &[u8], mem: &mut [u32], table: &[u32]) -> Wheeled
-    ensures { λ a. ⌜ WheelPromise given (now (samples .entry)) (machineOf r (now (mem .entry)) (now (table .entry))) (wheelOf a (now (mem .exit)) (now (table .entry))) ⌝ }
+    ensures { λ a. ⌜ WheelPromise given (now (samples .entry)) (atEntry r mem table) (countsOf a) (atExit (a .state) mem table) ⌝ }
 {
     let last = wide(given);
     let mut w = Wheeled {
@@ -105,10 +111,11 @@ pub fn follow(r: Record, given: u8, samples: &[u8], mem: &mut [u32], table: &[u3
         back: 0,
         refused: 0,
         last,
-        refusal: choose(3 < last, 20, 0),
+        refusal: 0,
         state: r,
     };
-    if w.refusal != 0 {
+    if 3 < last {
+        w.refusal = 20;
         return w;
     }
     let mut i = 0;

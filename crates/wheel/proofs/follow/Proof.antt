@@ -5,14 +5,14 @@ use lib.ListN.{length}
 use denote.Ref.{now}
 use Rattle.machine.specs.Machine.{machineOf}
 use Rattle.machine.proofs.Given.{given-bounds}
-use Rattle.wheel.specs.Wheel.{wheelOf}
+use Rattle.wheel.specs.Wheel.{countsOf, wheelAt}
 use Rattle.wheel.proofs.Loop.{Loop, refused, begin, done, stopped, again}
 use borrow.Author.Needs.{needs}
 use Rattle.wheel.proofs.follow.Statement.{statement}
 use Rattle.wheel.proofs.follow.Tie as tie
 
 abbrev Inv-loop : tie.InvT-loop
-Inv-loop given samples mem₀ table last w₀ i₀ mem w i = Loop given samples (wheelOf w₀ mem₀ table) (wheelOf w mem table) i
+Inv-loop given samples mem₀ table last w₀ i₀ mem w i = Loop given samples (wheelAt (countsOf w₀) (machineOf (w₀ .state) mem₀ table)) (wheelAt (countsOf w) (machineOf (w .state) mem table)) i
 
 abbrev μ-loop : tie.MeasureT-loop
 μ-loop given samples mem₀ table last w₀ i₀ mem w i = length samples - i
@@ -23,21 +23,19 @@ follow-spec =
     (tie.spec
     Inv-loop
     μ-loop
-    (λ c κs. search needs) (λ c κs. search needs)
+    (λ c κs. search needs)
     (λ c.
-    let t = c .before .before in
-    let s = t .before .before .before in
+    let s = c .before .before .before in
     let g = s .before .before .args in
     let x = machineOf (g .r) (now (g .mem)) (now (g .table)) in
-    refused (now (g .samples)) x (t .before .wide .ensures) (t .choose .ensures)
+    refused (now (g .samples)) x (c .before .wide .ensures)
     (given-bounds x (search needs) (λ a. search needs) (s .slice-known .given)
     (record { sfits = s .before .before .good .0 .1 .1 .1 .1 .1 .1 .1 .1 .0 .1 })) (c .if1 .taken))
     (λ c.
-    let t = c .before .before in
-    let s = t .before .before .before in
+    let s = c .before .before .before in
     let g = s .before .before .args in
     let x = machineOf (g .r) (now (g .mem)) (now (g .table)) in
-    begin (now (g .samples)) x (t .before .wide .ensures) (t .choose .ensures)
+    begin (now (g .samples)) x (c .before .wide .ensures)
     (given-bounds x (search needs) (λ a. search needs) (s .slice-known .given)
     (record { sfits = s .before .before .good .0 .1 .1 .1 .1 .1 .1 .1 .1 .0 .1 })) (c .if1 .left) (s .before .before .good .1 .1 .0 .0))
     (λ c. search needs)
