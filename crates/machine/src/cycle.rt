@@ -131,15 +131,26 @@ fn judge(
     let finish = word_at(mem, at.m, pc) == qins::FINISH;
     match d {
         Direction::Forward => {
-            let b = refused_if(finish, 12, land(a, new, at, regs, mem));
-            refused_if(sizes, 10, refused_if(!(pc < at.k), 11, b))
+            let rest = land(a, new, at, regs, mem);
+            refused_if(
+                sizes,
+                10,
+                refused_if(!(pc < at.k), 11, refused_if(finish, 12, rest)),
+            )
         }
         Direction::Back => {
             let ready = at.qifw == 0;
-            let b = refused_if(word::both(ready, finish), 18, a);
-            let c = refused_if(!(pc < at.k), 11, b);
             let start = word::both(ready, is_start(at, mem, old));
-            refused_if(sizes, 10, refused_if(start, 12, c))
+            let end = word::both(ready, finish);
+            refused_if(
+                sizes,
+                10,
+                refused_if(
+                    start,
+                    12,
+                    refused_if(!(pc < at.k), 11, refused_if(end, 18, a)),
+                ),
+            )
         }
     }
 }
