@@ -1,5 +1,8 @@
 //! Every image that loads has a source that assembles to the same bytes.
 
+#[path = "../../model/tests/proved/records.rs"]
+mod records;
+
 use crank::{calls, Kind, Machine, MAX_FILE, MAX_NODES, MAX_WORDS, NODE_WORDS};
 use crank_assembler::{assemble, disassemble, files};
 use crank_model::cover::Cover;
@@ -9,6 +12,7 @@ use crank_model::rng::{rounds, Rng};
 use crank_model::state::{self, WAYS};
 use crank_model::structured;
 use crank_model::words::EXTREMES;
+use records::given;
 
 /// What the images have to bring, each in some of them.
 const SEEN: [&str; 17] = [
@@ -100,13 +104,8 @@ fn file_of(rng: &mut Rng, machine: &state::Machine) -> Option<Vec<u8>> {
     let preface = random_preface(rng);
     let machine = Machine {
         record: crank::Record {
-            regs: machine.record.regs,
-            qifv: machine.record.qifv,
-            qifw: machine.record.qifw,
-            k: machine.record.k,
-            m: machine.record.m,
-            n: machine.record.n,
             position: rng.pick(&[machine.record.position, 0, -1, i64::MIN, i64::MAX]),
+            ..given(machine.record)
         },
         mem: machine.mem.clone(),
         table: machine.table.clone(),

@@ -2,13 +2,16 @@
 //! is well-formed, shows every node once with its waits, marks the present one, and draws the links
 //! of the table and no others.
 
+#[path = "../../model/tests/proved/records.rs"]
+mod records;
 #[path = "support/scratch.rs"]
 mod scratch;
 #[path = "support/xml.rs"]
 mod xml;
 
-use crank::{Machine, Record, NODE_FIELDS, NODE_WORDS};
+use crank::{Machine, NODE_FIELDS, NODE_WORDS};
 use crank_model::{damage, generate, nodes, rng::Rng, state, structured};
+use records::given;
 use scratch::{scratch, top};
 use std::fs;
 use std::path::Path;
@@ -238,18 +241,11 @@ fn check(machine: &Machine, svg: &str) -> (usize, usize) {
 }
 
 fn of_model(from: &state::Machine) -> Machine {
-    let r = &from.record;
-    let record = Record {
-        regs: r.regs,
-        qifv: r.qifv,
-        qifw: r.qifw,
-        k: r.k,
-        m: r.m,
-        n: r.n,
-        position: r.position,
-    };
-    let (mem, table) = (from.mem.clone(), from.table.clone());
-    Machine { record, mem, table }
+    Machine {
+        record: given(from.record),
+        mem: from.mem.clone(),
+        table: from.table.clone(),
+    }
 }
 
 /// A machine of any kind; those with a table of its own have up to the most nodes.

@@ -6,6 +6,8 @@ mod faults;
 mod lists;
 mod names;
 mod position;
+#[path = "../../../model/tests/proved/records.rs"]
+mod records;
 mod right;
 mod running;
 mod scratch;

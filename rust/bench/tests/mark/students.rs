@@ -1,7 +1,8 @@
 //! Exercises as they are given out, and students who turn them to and fro.
 
+use crate::records::given;
 use crate::scratch::all_examples;
-use crank::{Direction, Kind, Machine, Record};
+use crank::{Direction, Kind, Machine};
 use crank_model::rng::Rng;
 use crank_model::structured;
 
@@ -23,18 +24,8 @@ pub fn exercises(rng: &mut Rng, generated: u32) -> Vec<Machine> {
 fn generated_exercise(rng: &mut Rng) -> Machine {
     let rounds = rng.chance(2, 3).then(|| rng.between(1, 60));
     let made = structured::program(rng, rounds);
-    let r = made.record;
-    let record = Record {
-        regs: r.regs,
-        qifv: r.qifv,
-        qifw: r.qifw,
-        k: r.k,
-        m: r.m,
-        n: r.n,
-        position: r.position,
-    };
     Machine {
-        record,
+        record: given(made.record),
         mem: made.mem,
         table: made.table,
     }

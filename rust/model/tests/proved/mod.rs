@@ -1,12 +1,15 @@
 //! The proved calls, answering in the model's types.
 #![allow(dead_code)] // each test uses some of them
 
+mod records;
+
 use crank::calls;
 use crank_model::machine::{self, Batch, Record};
 use crank_model::maker::{self, Made, MakeCall};
 use crank_model::preview::{self, Preview, PreviewCall};
 use crank_model::state::{BatchCall, Turn};
 use crank_model::wheel::{self, SampleCall, Wheeled};
+use records::{given, got};
 
 /// Single turns forward and back, by who makes them; the last as the previews
 /// show them.
@@ -39,30 +42,6 @@ pub const PREVIEWS: [(&str, [PreviewCall; 2]); 2] = [
 
 /// The makers of a qif table.
 pub const MAKERS: [(&str, MakeCall); 2] = [("model", maker::make_table), ("library", make_table)];
-
-fn given(r: Record) -> crank::Record {
-    crank::Record {
-        regs: r.regs,
-        qifv: r.qifv,
-        qifw: r.qifw,
-        k: r.k,
-        m: r.m,
-        n: r.n,
-        position: r.position,
-    }
-}
-
-fn got(r: crank::Record) -> Record {
-    Record {
-        regs: r.regs,
-        qifv: r.qifv,
-        qifw: r.qifw,
-        k: r.k,
-        m: r.m,
-        n: r.n,
-        position: r.position,
-    }
-}
 
 pub fn is_instruction(word: u32) -> bool {
     calls::is_instruction(word)
