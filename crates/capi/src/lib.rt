@@ -12,10 +12,10 @@ ghost use Rattle.word.specs.Word.{pick};
 ghost use Rattle.qins.specs.Decode.{isInstruction};
 ghost use Rattle.image.specs.Load.{LoadPromise, prefaceOf};
 ghost use Rattle.image.specs.Save.{SavePromise};
-ghost use Rattle.image.specs.Check.{checkOf, checkNodeOf};
+ghost use Rattle.links.specs.Check.{checkOf, checkNodeOf};
 ghost use Rattle.maker.specs.Make.{MakePromise};
-use image::Checked;
 use image::Loaded;
+use links::Checked;
 use machine::Batch;
 use machine::Preview;
 use machine::Record;
@@ -112,14 +112,14 @@ pub extern "C" fn crank_save(r: Record, mem: &[u32], table: &[u32], out: &mut [u
 pub extern "C" fn crank_check(r: Record, mem: &[u32], table: &[u32]) -> Checked
     ensures { λ a. ⌜ a ≡ checkOf (machineOf r (now (mem .entry)) (now (table .entry))) ⌝ }
 {
-    image::check(r, mem, table)
+    links::check(r, mem, table)
 }
 
 #[no_mangle]
 pub extern "C" fn crank_check_node(r: Record, node: u32, mem: &[u32], table: &[u32]) -> u32
     ensures { λ a. ⌜ a ≡ checkNodeOf (machineOf r (now (mem .entry)) (now (table .entry))) node ⌝ }
 {
-    image::check_node(r, node, mem, table)
+    links::check_node(r, node, mem, table)
 }
 
 #[no_mangle]

@@ -1,21 +1,19 @@
--- What each return of load, preface, save and check answers by the definitions. Assumes nothing.
+-- What each return of load, preface and save answers by the definitions. Assumes nothing.
 use mathlib.Core.Path.{_≡_, sym, _∙_}
-use mathlib.Core.Bool.{true, false}
 use mathlib.Core.List.{List, [], _++_}
-use Prim.Native.Nat.{ℕ, _-_, _*_, _<_, _≤_}
+use Prim.Native.Nat.{ℕ, _-_, _*_, _≤_}
 use lib.ListN.{length, take, drop}
 use lib.Seq.{length-take-le}
 use borrow.Rule.Slice.PartMut.{midOf}
-use borrow.Author.Tests.{lt-ltb, le-ltb, le-leb, lt-leb, ne-eqb}
+use borrow.Author.Tests.{ne-eqb}
 use Rattle.step.specs.Table.{tableWords}
 use Rattle.machine.specs.declared.Record.{Record}
-use Rattle.machine.specs.Machine.{zeros, Machine, machineOf, stateOf, wrongSizes}
+use Rattle.machine.specs.Machine.{zeros, Machine, machineOf, stateOf}
 use Rattle.image.specs.declared.kinds.Kind.{Kind}
 use Rattle.image.specs.Format.{wordsOf, newest, backOf, image, kindOf, stateIn, backIn}
 use Rattle.image.specs.Load.{fileRefusal, loadRefusal, startIn, filled, LoadPromise, prefaceOf}
 use Rattle.image.specs.Save.{SaveDecided, SavePromise}
 use Rattle.image.proofs.Parts.{all-left}
-use Rattle.image.specs.Check.{badAddress, badNode, checkedAs, checkOf}
 
 -- ---- load and preface
 
@@ -58,20 +56,3 @@ module _ {x : Machine} {out : List ℕ} {n : ℕ} (d : SaveDecided x out n) wher
   pub save-writes : {w : ℕ} {out′ : List ℕ} → n ≡ 0 → w ≡ tableWords (x .state .n)
       → out′ ≡ image newest (record { state = x .state; words = stateOf x .words; links = take w (x .table) }) ++ drop (backOf newest (x .state)) out → SavePromise x out n out′
   save-writes z w f = record { decided = d; output = f ∙ rw (sym (d .answer) ∙ z, w) }
-
--- ---- check
-
-module _ (x : Machine) where
-  pub check-sizes : wrongSizes x ≡ true → checkedAs 10 0 ≡ checkOf x
-  check-sizes w = rw w
-
-  module _ (w : wrongSizes x ≡ false) (a : ℕ) (e : a ≡ badAddress x) where
-    pub check-code : a < x .state .k → checkedAs 7 a ≡ checkOf x
-    check-code h = rw (w, ← e, lt-ltb a (x .state .k) h)
-
-    module _ (h : x .state .k ≤ a) (v : ℕ) (f : v ≡ badNode x) where
-      pub check-node : v ≤ x .state .n → checkedAs 8 v ≡ checkOf x
-      check-node k = rw (w, ← e, le-ltb a (x .state .k) h, ← f, le-leb v (x .state .n) k)
-
-      pub check-good : x .state .n < v → checkedAs 0 0 ≡ checkOf x
-      check-good k = rw (w, ← e, le-ltb a (x .state .k) h, ← f, lt-leb v (x .state .n) k)

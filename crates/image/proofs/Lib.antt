@@ -3,12 +3,7 @@ pub mod Bytes
 pub mod Parts
 pub mod KindSearch
 pub mod Written
-pub mod Search
-pub mod Decides
-pub mod OneNode
-pub mod Paired
 pub mod Accepted
-pub mod NodeByNode
 pub mod Answers
 pub mod RoundTrip
 pub mod BothKinds

@@ -1,4 +1,4 @@
-// Machine images: load, preface, save and check.
+// Machine images: load, preface and save.
 ghost use mathlib.Core.Path.{_≡_};
 ghost use mathlib.Core.List.{_++_};
 ghost use Prim.Native.Nat.{_*_, _^_, _<_, _≤_};
@@ -8,17 +8,14 @@ ghost use Rattle.machine.specs.Machine.{machineOf};
 ghost use Rattle.image.specs.Format.{newest, backOf, image};
 ghost use Rattle.image.specs.Load.{loadRefusal, filled, LoadPromise, prefaceOf};
 ghost use Rattle.image.specs.Save.{SaveDecided, SavePromise};
-ghost use Rattle.image.specs.Check.{firstOf, noInstruction, checkOf, checkNodeOf};
 
 mod kinds;
-mod links;
 mod trailer;
 mod words;
 
 use kinds::NEWEST;
 use machine::Record;
 use step::sizes::is_enough;
-use step::table::is_node;
 use step::table::table_words;
 use trailer::back_of;
 use trailer::file_refusal;
@@ -32,13 +29,6 @@ use words::write_words;
 pub struct Loaded {
     pub refusal: u32,
     pub state: Record,
-}
-
-// What check answers: the refusal, 0 for none, and the lowest address or node that fails.
-#[repr(C)]
-pub struct Checked {
-    pub refusal: u32,
-    pub place: u32,
 }
 
 // ---- load and preface
@@ -125,58 +115,4 @@ pub fn save(r: Record, mem: &[u32], table: &[u32], out: &mut [u8]) -> u32
     let links = table_words(r.n);
     write_image(r, &mem[..m], &table[..links], out);
     answer
-}
-
-// ---- check
-
-// The lowest address of the first k that holds no instruction, k where there is none.
-fn first_bad_address(mem: &[u32], m: u32, k: u32) -> u32
-    ensures { λ r. ⌜ r ≡ firstOf (noInstruction (take m (now (mem .entry)))) 0 k ⌝ }
-{
-    let mut a: u32 = 0;
-    while a < k {
-        if !machine::is_instruction(step::lent::word_at(mem, m, a)) {
-            return a;
-        }
-        a += 1;
-    }
-    a
-}
-
-pub fn check(r: Record, mem: &[u32], table: &[u32]) -> Checked
-    ensures { λ c. ⌜ c ≡ checkOf (machineOf r (now (mem .entry)) (now (table .entry))) ⌝ }
-{
-    if r.has_bad_sizes(mem, table) {
-        return Checked {
-            refusal: 10,
-            place: 0,
-        };
-    }
-    let a = first_bad_address(mem, r.m, r.k);
-    if a < r.k {
-        return Checked {
-            refusal: 7,
-            place: a,
-        };
-    }
-    let v = links::first_unpaired(table, r.n);
-    if v <= r.n {
-        return Checked {
-            refusal: 8,
-            place: v,
-        };
-    }
-    Checked {
-        refusal: 0,
-        place: 0,
-    }
-}
-
-// The refusal of one node, 0 for none; the code words are not looked at.
-pub fn check_node(r: Record, node: u32, mem: &[u32], table: &[u32]) -> u32
-    ensures { λ a. ⌜ a ≡ checkNodeOf (machineOf r (now (mem .entry)) (now (table .entry))) node ⌝ }
-{
-    let bad = links::is_unpaired(table, r.n, node);
-    let found = word::choose(!is_node(r.n, node), 17, word::choose(bad, 8, 0));
-    word::choose(r.has_bad_sizes(mem, table), 10, found)
 }

@@ -21,7 +21,7 @@ use Rattle.step.specs.View.{View}
 use Rattle.machine.specs.Turn.{pc, landed, judged, executed, planned}
 use Rattle.machine.specs.declared.Record.{Record}
 use Rattle.machine.specs.Machine.{Machine, machineOf, stateOf, viewOf, wrongSizes}
-use Rattle.image.specs.Check.{unpaired, checkOf, checkNodeOf}
+use Rattle.links.specs.Check.{unpaired, checkOf, checkNodeOf}
 use Rattle.maker.specs.declared.Made.{Made}
 use Rattle.maker.specs.Walk.{Walk, size, cycles, ending, drawn}
 use Rattle.maker.specs.Making.{Outcome, branchAt}

@@ -11,12 +11,12 @@ use lib.Seq.{getD-take}
 use Rattle.step.specs.Table.{fc, lc, cf, cl, nx, pr, w, link}
 use Rattle.step.proofs.Views.{link-node}
 use Rattle.machine.specs.Machine.{Machine, stateOf, wrongSizes}
-use Rattle.image.specs.declared.Checked.{Checked}
-use Rattle.image.specs.Check.{returns, childrenReturn, unpaired, checkOf, checkNodeOf}
-use Rattle.image.specs.CheckClaims.{Paired}
-use Rattle.image.proofs.Decides.{both, either, equal, node}
-use Rattle.image.proofs.OneNode.{links-decide}
-use Rattle.image.proofs.NodeByNode.{before-nodes, node-by-node}
+use Rattle.links.specs.declared.Checked.{Checked}
+use Rattle.links.specs.Check.{returns, childrenReturn, unpaired, checkOf, checkNodeOf}
+use Rattle.links.specs.Claims.{Paired}
+use Rattle.links.proofs.Decides.{both, either, equal, node}
+use Rattle.links.proofs.OneNode.{links-decide}
+use Rattle.links.proofs.NodeByNode.{before-nodes, node-by-node}
 use Rattle.maker.specs.Walk.{Walk, size, ending, put, pair, linked, drawn, forkSize, forkLinked, lack}
 use Rattle.maker.specs.Walk.Walk.{begin, step, fork}
 use Rattle.maker.proofs.Drawn.{word, Off₂, other, pair-long, pair-other, pair-there, pair-back, stays}

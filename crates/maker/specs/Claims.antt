@@ -18,7 +18,7 @@ use Rattle.machine.specs.Turn.{pc}
 use Rattle.machine.specs.Position.{isLast}
 use Rattle.machine.specs.Machine.{Machine, stateOf, viewOf}
 use Rattle.machine.specs.Calls.{planOf}
-use Rattle.image.specs.Check.{checkOf, checkNodeOf}
+use Rattle.links.specs.Check.{checkOf, checkNodeOf}
 use Rattle.maker.specs.Walk.{Walk, size, cycles, ending, drawn}
 use Rattle.maker.specs.Making.{branchAt}
 use Rattle.maker.specs.Making.Outcome.{ended}

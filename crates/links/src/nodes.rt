@@ -3,7 +3,7 @@ ghost use mathlib.Core.Path.{_≡_};
 ghost use Prim.Native.Nat.{_<_};
 ghost use lib.ListN.{take};
 ghost use Rattle.step.specs.Table.{tableWords};
-ghost use Rattle.image.specs.Check.{firstOf, returns, childrenReturn, unpaired};
+ghost use Rattle.links.specs.Check.{firstOf, returns, childrenReturn, unpaired};
 use step::table::CF;
 use step::table::CL;
 use step::table::NX;

@@ -1,6 +1,6 @@
 use borrow.Author.Needs.{needs}
-use Rattle.image.proofs.check_node.Statement.{statement}
-use Rattle.image.proofs.check_node.Tie as tie
+use Rattle.links.proofs.check_node.Statement.{statement}
+use Rattle.links.proofs.check_node.Tie as tie
 
 pub check-node-spec : {M : Type 1} → statement M
 check-node-spec =

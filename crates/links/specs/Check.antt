@@ -8,7 +8,7 @@ use Rattle.word.specs.Word.{pick}
 use Rattle.qins.specs.Decode.{isInstruction}
 use Rattle.step.specs.Table.{fc, lc, cf, cl, nx, pr, isNode, link}
 use Rattle.machine.specs.Machine.{Machine, stateOf, wrongSizes}
-use Rattle.image.specs.declared.Checked.{Checked}
+use Rattle.links.specs.declared.Checked.{Checked}
 
 -- the first of the n numbers from i on where the test holds, i + n where there is none
 unfoldable pub firstOf : (ℕ → Bool) → ℕ → ℕ → ℕ

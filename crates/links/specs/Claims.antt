@@ -9,7 +9,7 @@ use lib.ListN.{length, getD, set, replicate}
 use Rattle.qins.specs.Decode.{isInstruction}
 use Rattle.step.specs.Table.{nodeWords, fc, lc, cf, cl, nx, pr}
 use Rattle.machine.specs.Machine.{zeros, Machine, machineOf, leftAs, wrongSizes}
-use Rattle.image.specs.Check.{checkedAs, checkOf, checkNodeOf}
+use Rattle.links.specs.Check.{checkedAs, checkOf, checkNodeOf}
 
 -- ---- before the nodes
 

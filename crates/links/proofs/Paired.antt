@@ -13,10 +13,10 @@ use Rattle.word.proofs.Words.{pick-first, pick-second}
 use Rattle.step.specs.Table.{nodeWords, tableWords, fc, lc, cf, cl, nx, pr, link}
 use Rattle.step.proofs.Views.{link-node}
 use Rattle.machine.specs.Machine.{Machine, wrongSizes}
-use Rattle.image.specs.Check.{returns, childrenReturn, unpaired, badLinks, checkNodeOf}
-use Rattle.image.specs.CheckClaims.{wordOf, Paired, ChildrenPaired, AllPaired, OnLinks}
-use Rattle.image.proofs.Decides.{Decides, both, either, equal, node}
-use Rattle.image.proofs.OneNode.{links-decide}
+use Rattle.links.specs.Check.{returns, childrenReturn, unpaired, badLinks, checkNodeOf}
+use Rattle.links.specs.Claims.{wordOf, Paired, ChildrenPaired, AllPaired, OnLinks}
+use Rattle.links.proofs.Decides.{Decides, both, either, equal, node}
+use Rattle.links.proofs.OneNode.{links-decide}
 
 -- ---- links
 

@@ -1,9 +1,9 @@
 use borrow.Author.Needs.{needs}
-use Rattle.image.proofs.links.is_unpaired.Statement.{statement}
-use Rattle.image.proofs.links.is_unpaired.Tie as tie
+use Rattle.links.proofs.nodes.is_unpaired.Statement.{statement}
+use Rattle.links.proofs.nodes.is_unpaired.Tie as tie
 
 pub is-unpaired-spec : {M : Type 1} → statement M
-unfolding Rattle.image.specs.Check.unpaired
+unfolding Rattle.links.specs.Check.unpaired
 is-unpaired-spec =
     tie.close
     (tie.spec

@@ -5,7 +5,7 @@ use Prim.Native.Nat.{ℕ, zero, suc, _+_, _<_, _≤_}
 use native.Mathlib.Omega.{arith}
 use native.Mathlib.Decide.{decLe}
 use Rattle.word.specs.Word.{pick}
-use Rattle.image.specs.Check.{firstOf}
+use Rattle.links.specs.Check.{firstOf}
 
 -- of the n numbers from s on, the test fails at those below i: the loop's invariant
 pub record Searching (test : ℕ → Bool) (s n i : ℕ) : Type 0 where

@@ -10,9 +10,9 @@ use Rattle.word.proofs.Words.{pick-first, pick-second, pick-neither}
 use Rattle.step.specs.Table.{isNode, link}
 use Rattle.step.specs.Sizes.{inRange, badSizes}
 use Rattle.machine.specs.Machine.{Machine, wrongSizes}
-use Rattle.image.specs.Check.{returns, childrenReturn, unpaired, badLinks, checkNodeOf}
-use Rattle.image.specs.CheckClaims.{BeforeLinks, AnyWords, Pairing, Astray}
-use Rattle.image.proofs.Decides.{node}
+use Rattle.links.specs.Check.{returns, childrenReturn, unpaired, badLinks, checkNodeOf}
+use Rattle.links.specs.Claims.{BeforeLinks, AnyWords, Pairing, Astray}
+use Rattle.links.proofs.Decides.{node}
 
 module _ (x : Machine) (v : ℕ) where
   abbrev n : ℕ

@@ -1,9 +1,9 @@
 use borrow.Author.Needs.{needs}
-use Rattle.image.proofs.links.is_returned.Statement.{statement}
-use Rattle.image.proofs.links.is_returned.Tie as tie
+use Rattle.links.proofs.nodes.is_returned.Statement.{statement}
+use Rattle.links.proofs.nodes.is_returned.Tie as tie
 
 pub is-returned-spec : {M : Type 1} → statement M
-unfolding Rattle.image.specs.Check.returns
+unfolding Rattle.links.specs.Check.returns
 is-returned-spec =
     tie.close
     (tie.spec

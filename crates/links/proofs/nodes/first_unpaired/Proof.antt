@@ -4,11 +4,11 @@ use Rattle.step.specs.Table.{tableWords}
 use denote.Ref.{now}
 use native.Mathlib.Omega.{arith}
 use lib.ListN.{take}
-use Rattle.image.specs.Check.{unpaired}
-use Rattle.image.proofs.Search.{Searching, search-starts, search-hits, search-ends, search-goes-on}
+use Rattle.links.specs.Check.{unpaired}
+use Rattle.links.proofs.Search.{Searching, search-starts, search-hits, search-ends, search-goes-on}
 use borrow.Author.Needs.{needs}
-use Rattle.image.proofs.links.first_unpaired.Statement.{statement}
-use Rattle.image.proofs.links.first_unpaired.Tie as tie
+use Rattle.links.proofs.nodes.first_unpaired.Statement.{statement}
+use Rattle.links.proofs.nodes.first_unpaired.Tie as tie
 
 abbrev Inv-loop : tie.InvT-loop
 Inv-loop table n v₀ v = Searching (unpaired (take (tableWords n) table) n) 1 n v

@@ -5,11 +5,11 @@ use denote.Ref.{now}
 use native.Mathlib.Omega.{arith}
 use lib.ListN.{take}
 use Rattle.qins.specs.Decode.{isInstruction}
-use Rattle.image.specs.Check.{noInstruction}
-use Rattle.image.proofs.Search.{Searching, search-starts, search-hits, search-ends, search-goes-on}
+use Rattle.links.specs.Check.{noInstruction}
+use Rattle.links.proofs.Search.{Searching, search-starts, search-hits, search-ends, search-goes-on}
 use borrow.Author.Needs.{needs}
-use Rattle.image.proofs.first_bad_address.Statement.{statement}
-use Rattle.image.proofs.first_bad_address.Tie as tie
+use Rattle.links.proofs.first_bad_address.Statement.{statement}
+use Rattle.links.proofs.first_bad_address.Tie as tie
 
 abbrev Inv-loop : tie.InvT-loop
 Inv-loop mem m k a₀ a = Searching (noInstruction (take m mem)) 0 k a

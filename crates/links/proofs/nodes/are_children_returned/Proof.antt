@@ -1,9 +1,9 @@
 use borrow.Author.Needs.{needs}
-use Rattle.image.proofs.links.are_children_returned.Statement.{statement}
-use Rattle.image.proofs.links.are_children_returned.Tie as tie
+use Rattle.links.proofs.nodes.are_children_returned.Statement.{statement}
+use Rattle.links.proofs.nodes.are_children_returned.Tie as tie
 
 pub are-children-returned-spec : {M : Type 1} → statement M
-unfolding Rattle.image.specs.Check.childrenReturn
+unfolding Rattle.links.specs.Check.childrenReturn
 are-children-returned-spec =
     tie.close
     (tie.spec

@@ -13,14 +13,13 @@ use Rattle.qins.specs.Decode.{isInstruction}
 use Rattle.step.specs.Table.{isNode}
 use Rattle.machine.specs.declared.Record.{Record}
 use Rattle.machine.specs.Machine.{Machine, stateOf, wrongSizes}
-use Rattle.image.specs.declared.Checked.{Checked}
-use Rattle.image.specs.Check.{noInstruction, badAddress, badLinks, badNode, checkedAs, checkOf, checkNodeOf}
-use Rattle.image.specs.CheckClaims.{FirstBadWord, InOrder, BeforeNodes, FirstBadNode, NodeByNode}
-use Rattle.image.proofs.Search.{Found, found, found-is}
-use Rattle.image.proofs.Accepted.{sized}
-use Rattle.image.proofs.Decides.{node}
-use Rattle.image.proofs.OneNode.{links-decide}
-use Rattle.image.proofs.Answers.{check-sizes, check-code}
+use Rattle.links.specs.declared.Checked.{Checked}
+use Rattle.links.specs.Check.{noInstruction, badAddress, badLinks, badNode, checkedAs, checkOf, checkNodeOf}
+use Rattle.links.specs.Claims.{FirstBadWord, InOrder, BeforeNodes, FirstBadNode, NodeByNode}
+use Rattle.links.proofs.Search.{Found, found, found-is}
+use Rattle.links.proofs.Decides.{node}
+use Rattle.links.proofs.OneNode.{links-decide}
+use Rattle.links.proofs.Answers.{checkable, check-sizes, check-code}
 
 -- ---- answers of the check
 
@@ -52,7 +51,7 @@ module _ (x : Machine) where
   -- it is told by the lent memory's word, and tells of it
   module _ (w : wrongSizes x ≡ false) (a : ℕ) (h : a < r .k) where
     same-word : getD (stateOf x .words) a 0 ≡ getD (x .memory) a 0
-    same-word = let s = sized x w .code in getD-take (r .m) (x .memory) a 0 (omega arith)
+    same-word = let s = checkable x w .code in getD-take (r .m) (x .memory) a 0 (omega arith)
 
     tested : {b : Bool} → isInstruction (getD (x .memory) a 0) ≡ b → isBad a ≡ not b
     tested e = ap not (ap isInstruction same-word ∙ e)

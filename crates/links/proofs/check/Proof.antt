@@ -2,11 +2,10 @@ use mathlib.Core.Path.{sym, _∙_}
 use denote.Ref.{now}
 use Rattle.machine.specs.Machine.{machineOf}
 use native.Mathlib.Omega.{arith}
-use Rattle.image.proofs.Accepted.{sized}
-use Rattle.image.proofs.Answers.{check-sizes, check-code, check-node, check-good}
+use Rattle.links.proofs.Answers.{checkable, check-sizes, check-code, check-node, check-good}
 use borrow.Author.Needs.{needs}
-use Rattle.image.proofs.check.Statement.{statement}
-use Rattle.image.proofs.check.Tie as tie
+use Rattle.links.proofs.check.Statement.{statement}
+use Rattle.links.proofs.check.Tie as tie
 
 pub check-spec : {M : Type 1} → statement M
 check-spec =
@@ -25,7 +24,7 @@ check-spec =
     (λ c κs.
     let i = c .before .before .before in
     let g = i .before .before .before .before .args in
-    omega (arith, sized (machineOf (g .r) (now (g .mem)) (now (g .table))) (sym (i .before .has-bad-sizes .ensures) ∙ i .if1 .left) .nodes))
+    omega (arith, checkable (machineOf (g .r) (now (g .mem)) (now (g .table))) (sym (i .before .has-bad-sizes .ensures) ∙ i .if1 .left) .nodes))
     (λ c.
     let v = c .before .before in
     let a = v .before .before .before in
