@@ -4,6 +4,7 @@ use mathlib.Core.Bool.{true, false}
 use Prim.Native.Nat.{ℕ, _<_, _≤_}
 use lib.Dec.{ltb, leb}
 use borrow.Author.Tests.{leb-true, lt-ltb, le-ltb, le-leb, lt-leb, not-false}
+use Rattle.word.specs.Refusal.{refuse}
 use Rattle.word.proofs.Words.{and-true}
 use Rattle.step.specs.Sizes.{maxWords, maxNodes, inRange, badSizes}
 use Rattle.machine.specs.Machine.{Machine, statusOf, wrongSizes}
@@ -26,15 +27,19 @@ checkable x w =
 
 module _ (x : Machine) where
   pub check-sizes : wrongSizes x ≡ true → checkedAs 10 0 ≡ checkOf x
+  unfolding refuse
   check-sizes w = rw w
 
   module _ (w : wrongSizes x ≡ false) (a : ℕ) (e : a ≡ badAddress x) where
     pub check-code : a < x .state .k → checkedAs 7 a ≡ checkOf x
+    unfolding refuse
     check-code h = rw (w, ← e, lt-ltb a (x .state .k) h)
 
     module _ (h : x .state .k ≤ a) (v : ℕ) (f : v ≡ badNode x) where
       pub check-node : v ≤ x .state .n → checkedAs 8 v ≡ checkOf x
+      unfolding refuse
       check-node k = rw (w, ← e, le-ltb a (x .state .k) h, ← f, le-leb v (x .state .n) k)
 
       pub check-good : x .state .n < v → checkedAs 0 0 ≡ checkOf x
+      unfolding refuse
       check-good k = rw (w, ← e, le-ltb a (x .state .k) h, ← f, lt-leb v (x .state .n) k)

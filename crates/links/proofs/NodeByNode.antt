@@ -7,8 +7,8 @@ use lib.ListN.{getD}
 use lib.Seq.{getD-take}
 use lib.Dec.{ltb, leb}
 use borrow.Author.Tests.{ltb-true, ltb-false, leb-true, leb-false, le-ltb, le-leb, lt-leb, not-true, not-false}
-use Rattle.word.specs.Word.{pick}
-use Rattle.word.proofs.Words.{pick-first, pick-second, pick-neither}
+use Rattle.word.specs.Refusal.{refuse}
+use Rattle.word.proofs.Refusal.{refuse-true, refuse-false, refuse-passed, refuse-refused, refuse-neither}
 use Rattle.qins.specs.Decode.{isInstruction}
 use Rattle.step.specs.Table.{isNode}
 use Rattle.machine.specs.declared.Record.{Record}
@@ -35,12 +35,13 @@ module _ (x : Machine) where
 
   -- what the check gives of the nodes: 8 or 0
   abbrev ofNodes : Checked
-  ofNodes = pick (leb (badNode x) (r .n)) (checkedAs 8 (badNode x)) (checkedAs 0 0)
+  ofNodes = refuse (leb (badNode x) (r .n)) (checkedAs 8 (badNode x)) (checkedAs 0 0)
 
   not-of-nodes : {n : ℕ} → (8 ≡ n → ⊥) → (0 ≡ n → ⊥) → ofNodes .refusal ≡ n → ⊥
+  unfolding refuse
   not-of-nodes {n} h i = go (leb (badNode x) (r .n))
     where
-      go : (t : Bool) → pick t (checkedAs 8 (badNode x)) (checkedAs 0 0) .refusal ≡ n → ⊥
+      go : (t : Bool) → refuse t (checkedAs 8 (badNode x)) (checkedAs 0 0) .refusal ≡ n → ⊥
       go true e = h e
       go false e = i e
 
@@ -78,12 +79,12 @@ module _ (x : Machine) where
 
   sizes-told : checkOf x ≡ checkedAs 10 0 → wrongSizes x ≡ true
   sizes-told e =
-      pick-first (wrongSizes x) (pick-neither (ltb (badAddress x) (r .k)) (λ e. omega (arith, number e)) (λ e. not-ten (number e))) e .0
+      refuse-refused (wrongSizes x) _ _ _ e (refuse-neither (ltb (badAddress x) (r .k)) _ _ _ (λ e. omega (arith, number e)) (λ e. not-ten (number e))) .0
 
   word-told : (a : ℕ) → checkOf x ≡ checkedAs 7 a → (wrongSizes x ≡ false) × FirstBadWord x a
   word-told a e =
-      let (w, d) = pick-second (wrongSizes x) (λ e. omega (arith, number e)) e in
-      let (t, c) = pick-first (ltb (badAddress x) (r .k)) (λ e. not-seven (number e)) d in
+      let (w, d) = refuse-passed (wrongSizes x) _ _ _ e (λ e. omega (arith, number e)) in
+      let (t, c) = refuse-refused (ltb (badAddress x) (r .k)) _ _ _ d (λ e. not-seven (number e)) in
       let p : badAddress x ≡ a = place c in
       let h : a < r .k = rw (← p) (ltb-true _ _ t) in
       let f : Found isBad 0 (r .k) a = rw (← p) found-word in
@@ -101,6 +102,7 @@ module _ (x : Machine) where
 
   -- where all is in order, the nodes decide
   nodes-decide : InOrder x → checkOf x ≡ ofNodes
+  unfolding refuse
   nodes-decide o =
       let f : Found isBad 0 (r .k) (r .k) =
       record {
@@ -111,6 +113,7 @@ module _ (x : Machine) where
       rw (o .sizes, e, le-ltb (r .k) (r .k) (omega arith))
 
   in-order : (checkOf x .refusal ≡ 10 → ⊥) → (checkOf x .refusal ≡ 7 → ⊥) → InOrder x
+  unfolding refuse
   in-order h k = go (wrongSizes x) refl (ltb (badAddress x) (r .k)) refl
     where
       go : (w : Bool) → wrongSizes x ≡ w → (c : Bool) → ltb (badAddress x) (r .k) ≡ c → InOrder x
@@ -124,21 +127,21 @@ module _ (x : Machine) where
 
   bad-told : (p : ℕ) → InOrder x → checkOf x ≡ checkedAs 8 p → FirstBadNode x p
   bad-told p o e =
-      let (t, c) = pick-first (leb (badNode x) (r .n)) (λ e. omega (arith, number e)) (sym (nodes-decide o) ∙ e) in
+      let (t, c) = refuse-refused (leb (badNode x) (r .n)) _ _ _ (sym (nodes-decide o) ∙ e) (λ e. omega (arith, number e)) in
       let q : badNode x ≡ p = place c in
       let h : p ≤ r .n = rw (← q) (leb-true _ _ t) in
       let f : Found (badLinks x) 1 (r .n) p = rw (← q) found-node in
       let l = f .passed .least in
       record {
-        bad = links-decide x p (o .sizes) (omega arith) h ∙ rw (f .holds (omega arith));
-        lower = λ v k m. links-decide x v (o .sizes) k (omega arith) ∙ rw (f .passed .below v (omega arith) m);
+        bad = links-decide x p (o .sizes) (omega arith) h ∙ refuse-true _ 8 0 (f .holds (omega arith));
+        lower = λ v k m. links-decide x v (o .sizes) k (omega arith) ∙ refuse-false _ 8 0 (f .passed .below v (omega arith) m);
       }
 
   -- what a call on a node tells
   node-told : (v n : ℕ) → (10 ≡ n → ⊥) → (17 ≡ n → ⊥) → checkNodeOf x v ≡ n → isNode (r .n) v ≡ true
   node-told v n h k e =
-      let (w, d) = pick-second (wrongSizes x) h e in
-      not-false _ (pick-second (not (isNode (r .n) v)) k d .0)
+      let (w, d) = refuse-passed (wrongSizes x) _ _ _ e h in
+      not-false _ (refuse-passed (not (isNode (r .n) v)) _ _ _ d k .0)
 
   -- p is what the search over the nodes finds where the call gives 0 below it, and 8 on it unless it is the end
   found-at : wrongSizes x ≡ false → (p : ℕ) → 0 < p → p ≤ r .n + 1 → ((v : ℕ) → 0 < v → v < p → checkNodeOf x v ≡ 0)
@@ -146,12 +149,13 @@ module _ (x : Machine) where
   found-at w p l m below at =
       let f : Found (badLinks x) 1 (r .n) p =
       record {
-        passed = record { least = omega arith; most = omega arith; below = λ v h k. pick-second (badLinks x v) (λ e. omega (arith, e)) (sym (links-decide x v w (omega arith) (omega arith)) ∙ below v (omega arith) k) .0 };
-        holds = λ h. pick-first (badLinks x p) (λ e. omega (arith, e)) (sym (links-decide x p w l (omega arith)) ∙ at (omega arith)) .0;
+        passed = record { least = omega arith; most = omega arith; below = λ v h k. refuse-passed (badLinks x v) _ _ _ (sym (links-decide x v w (omega arith) (omega arith)) ∙ below v (omega arith) k) (λ e. omega (arith, e)) .0 };
+        holds = λ h. refuse-refused (badLinks x p) _ _ _ (sym (links-decide x p w l (omega arith)) ∙ at (omega arith)) (λ e. omega (arith, e)) .0;
       } in
       found-is _ 1 (r .n) p f
 
   bad-first : (p : ℕ) → InOrder x → FirstBadNode x p → checkOf x ≡ checkedAs 8 p
+  unfolding refuse
   bad-first p o b =
       let (h, k) = node (r .n) p .0 (node-told p 8 (λ e. omega (arith, e)) (λ e. omega (arith, e)) (b .bad)) in
       let e = found-at (o .sizes) p h (omega arith) (b .lower) (λ h. b .bad) in
@@ -159,11 +163,12 @@ module _ (x : Machine) where
 
   good-told : InOrder x → checkOf x ≡ checkedAs 0 0 → (v : ℕ) → 0 < v → v ≤ r .n → checkNodeOf x v ≡ 0
   good-told o e v h k =
-      let t = pick-second (leb (badNode x) (r .n)) (λ e. omega (arith, number e)) (sym (nodes-decide o) ∙ e) in
+      let t = refuse-passed (leb (badNode x) (r .n)) _ _ _ (sym (nodes-decide o) ∙ e) (λ e. omega (arith, number e)) in
       let l = leb-false (badNode x) (r .n) (t .0) in
-      links-decide x v (o .sizes) h k ∙ rw (found-node .passed .below v (omega arith) (omega arith))
+      links-decide x v (o .sizes) h k ∙ refuse-false _ 8 0 (found-node .passed .below v (omega arith) (omega arith))
 
   good-all : InOrder x → ((v : ℕ) → 0 < v → v ≤ r .n → checkNodeOf x v ≡ 0) → checkOf x ≡ checkedAs 0 0
+  unfolding refuse
   good-all o a =
       let e = found-at (o .sizes) (r .n + 1) (omega arith) (omega arith) (λ v h k. a v h (omega arith)) (λ h. absurd (omega arith)) in
       nodes-decide o ∙ rw (e, lt-leb (r .n + 1) (r .n) (omega arith))

@@ -5,8 +5,8 @@ use Prim.Native.Nat.{ℕ, _<_, _≤_, min}
 use native.Mathlib.Omega.{arith}
 use lib.ListN.{length, take, length-take}
 use borrow.Author.Tests.{not-true}
-use Rattle.word.specs.Word.{pick}
-use Rattle.word.proofs.Words.{pick-first, pick-second, pick-neither}
+use Rattle.word.specs.Refusal.{refuse}
+use Rattle.word.proofs.Refusal.{refuse-passed, refuse-refused, refuse-neither}
 use Rattle.step.specs.Table.{isNode, link}
 use Rattle.step.specs.Sizes.{inRange, badSizes}
 use Rattle.machine.specs.Machine.{Machine, wrongSizes}
@@ -20,17 +20,17 @@ module _ (x : Machine) (v : ℕ) where
 
   ten-told : checkNodeOf x v ≡ 10 → wrongSizes x ≡ true
   ten-told e =
-      pick-first (wrongSizes x)
-      (pick-neither (not (isNode n v)) (λ e. omega (arith, e)) (pick-neither (badLinks x v) (λ e. omega (arith, e)) (λ e. omega (arith, e))))
-      e .0
+      refuse-refused (wrongSizes x) _ _ _ e
+      (refuse-neither (not (isNode n v)) _ _ _ (λ e. omega (arith, e)) (refuse-neither (badLinks x v) _ _ _ (λ e. omega (arith, e)) (λ e. omega (arith, e)))) .0
 
   outside-told : checkNodeOf x v ≡ 17 → (wrongSizes x ≡ false) × ((0 < v) × (v ≤ n) → ⊥)
   outside-told e =
-      let (w, d) = pick-second (wrongSizes x) (λ e. omega (arith, e)) e in
-      let (o, _) = pick-first (not (isNode n v)) (pick-neither (badLinks x v) (λ e. omega (arith, e)) (λ e. omega (arith, e))) d in
+      let (w, d) = refuse-passed (wrongSizes x) _ _ _ e (λ e. omega (arith, e)) in
+      let (o, _) = refuse-refused (not (isNode n v)) _ _ _ d (refuse-neither (badLinks x v) _ _ _ (λ e. omega (arith, e)) (λ e. omega (arith, e))) in
       (w, λ p. true≢false (sym (node n v .1 p) ∙ not-true _ o))
 
   outside-refused : wrongSizes x ≡ false → ((0 < v) × (v ≤ n) → ⊥) → checkNodeOf x v ≡ 17
+  unfolding refuse
   outside-refused w h = go (isNode n v) refl
     where
       go : (b : Bool) → isNode n v ≡ b → checkNodeOf x v ≡ 17
@@ -38,10 +38,12 @@ module _ (x : Machine) (v : ℕ) where
       go false e = rw (w, e)
 
   -- of a node of the table its links decide
-  pub links-decide : wrongSizes x ≡ false → 0 < v → v ≤ n → checkNodeOf x v ≡ pick (badLinks x v) 8 0
+  pub links-decide : wrongSizes x ≡ false → 0 < v → v ≤ n → checkNodeOf x v ≡ refuse (badLinks x v) 8 0
+  unfolding refuse
   links-decide w h k = rw (w, node n v .1 (h, k))
 
 pub before-links : BeforeLinks
+unfolding refuse
 before-links =
     record {
       sizes = λ x v. (ten-told x v, λ w. rw w);
@@ -49,16 +51,16 @@ before-links =
     }
 
 pub any-words : AnyWords
-unfolding badSizes
+unfolding badSizes refuse
 any-words x v mem e =
     let m = x .state .m in
     let l : length (take m (x .memory)) ≡ length (take m mem) = length-take m (x .memory) ∙ ap (min m) e ∙ sym (length-take m mem) in
     rw l
 
 pub pairing : Pairing
-unfolding link inRange badSizes returns childrenReturn unpaired
+unfolding link inRange badSizes returns childrenReturn unpaired refuse
 pairing = refl
 
 pub astray : Astray
-unfolding link inRange badSizes returns childrenReturn unpaired
+unfolding link inRange badSizes returns childrenReturn unpaired refuse
 astray = record { elsewhere = refl; above = refl }

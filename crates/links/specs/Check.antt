@@ -5,6 +5,7 @@ use mathlib.Core.List.{List}
 use lib.Dec.{eqb, ltb, leb}
 use lib.ListN.{getD}
 use Rattle.word.specs.Word.{pick}
+use Rattle.word.specs.Refusal.{refuse}
 use Rattle.qins.specs.Decode.{isInstruction}
 use Rattle.step.specs.Table.{fc, lc, cf, cl, nx, pr, isNode, link}
 use Rattle.machine.specs.Machine.{Machine, stateOf, wrongSizes}
@@ -58,15 +59,15 @@ checkedAs n p = record { refusal = n; place = p }
 
 abbrev pub checkOf : Machine → Checked
 checkOf x =
-    pick (wrongSizes x) (checkedAs 10 0)
-    (pick (ltb (badAddress x) (x .state .k)) (checkedAs 7 (badAddress x))
-    (pick (leb (badNode x) (x .state .n)) (checkedAs 8 (badNode x))
+    refuse (wrongSizes x) (checkedAs 10 0)
+    (refuse (ltb (badAddress x) (x .state .k)) (checkedAs 7 (badAddress x))
+    (refuse (leb (badNode x) (x .state .n)) (checkedAs 8 (badNode x))
     (checkedAs 0 0)))
 
 -- one node (document 02, #105); of the memory only the length counts
 abbrev pub checkNodeOf : Machine → ℕ → ℕ
 checkNodeOf x v =
-    pick (wrongSizes x) 10
-    (pick (not (isNode (x .state .n) v)) 17
-    (pick (badLinks x v) 8
+    refuse (wrongSizes x) 10
+    (refuse (not (isNode (x .state .n) v)) 17
+    (refuse (badLinks x v) 8
     0))

@@ -65,7 +65,14 @@ pub fn check(r: Record, mem: &[u32], table: &[u32]) -> Checked
 pub fn check_node(r: Record, node: u32, mem: &[u32], table: &[u32]) -> u32
     ensures { λ a. ⌜ a ≡ checkNodeOf (machineOf r (now (mem .entry)) (now (table .entry))) node ⌝ }
 {
-    let bad = is_unpaired(table, r.n, node);
-    let found = word::choose(!is_node(r.n, node), 17, word::choose(bad, 8, 0));
-    word::choose(r.has_bad_sizes(mem, table), 10, found)
+    if r.has_bad_sizes(mem, table) {
+        return 10;
+    }
+    if !is_node(r.n, node) {
+        return 17;
+    }
+    if is_unpaired(table, r.n, node) {
+        return 8;
+    }
+    0
 }

@@ -18,3 +18,15 @@ module _ {A : Type 0} where
   unfolding refuse
   refuse-passed true a rest c e n = absurd (n e)
   refuse-passed false a rest c e n = (refl, e)
+
+  -- what is not from the rest is the answer
+  pub refuse-refused : (b : Bool) (a rest c : A) → refuse b a rest ≡ c → (rest ≡ c → ⊥) → (b ≡ true) × (a ≡ c)
+  unfolding refuse
+  refuse-refused true a rest c e n = (refl, e)
+  refuse-refused false a rest c e n = absurd (n e)
+
+  -- and what is neither is not given
+  pub refuse-neither : (b : Bool) (a rest c : A) → (a ≡ c → ⊥) → (rest ≡ c → ⊥) → refuse b a rest ≡ c → ⊥
+  unfolding refuse
+  refuse-neither true a rest c n m e = n e
+  refuse-neither false a rest c n m e = m e
