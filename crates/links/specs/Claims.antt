@@ -4,11 +4,11 @@ use mathlib.Core.Path.{_≡_}
 use mathlib.Core.Bool.{true, false}
 use mathlib.Core.Logic.{_↔_, _⊎_}
 use mathlib.Core.List.{List, [], _∷_, _++_, map}
-use lib.IntN.{pos}
 use lib.ListN.{length, getD, set, replicate}
 use Rattle.qins.specs.Decode.{isInstruction}
+use Rattle.step.specs.View.{sized}
 use Rattle.step.specs.Table.{nodeWords, fc, lc, cf, cl, nx, pr}
-use Rattle.machine.specs.Machine.{zeros, Machine, machineOf, leftAs, wrongSizes}
+use Rattle.machine.specs.Machine.{withStatus, zeros, Machine, machineOf, leftAs, wrongSizes}
 use Rattle.links.specs.Check.{checkedAs, checkOf, checkNodeOf}
 
 -- ---- before the nodes
@@ -92,7 +92,7 @@ pub record OnLinks : Type 0 where
 
 abbrev pub onFirst : List ℕ → ℕ
 onFirst table =
-    checkNodeOf (machineOf (record { regs = zeros .regs; qifv = 0; qifw = 0; k = 1; m = 1; n = 2; position = pos 0 }) (0 ∷ []) table) 1
+    checkNodeOf (machineOf (withStatus zeros (sized 1 1 2)) (0 ∷ []) table) 1
 
 -- a node's words, by their index, and a node of which word j is v and every other 0
 abbrev pub indices : List ℕ
@@ -101,7 +101,7 @@ indices = 0 ∷ 1 ∷ 2 ∷ 3 ∷ 4 ∷ 5 ∷ 6 ∷ 7 ∷ 8 ∷ []
 abbrev pub only : ℕ → ℕ → List ℕ
 only j v = set (replicate nodeWords 0) j v
 
--- Claim: where word j of node 1 is 2 and word g of node 2 is 1, these are the answers, a row a j and a column a g, in the order
+-- Claim: where word j of node 1 is 2 and word g of node 2 is 1, these are the answers, a row for each j and a column for each g, in the order
 -- fc0 fc1 lc0 lc1 cf cl nx pr w: each link returns by its inverses and by nothing else, and w is no link
 abbrev pub Pairing : Type 0
 Pairing =

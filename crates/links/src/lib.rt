@@ -1,7 +1,7 @@
 // The check of a machine: its code words, and the links of its qif table.
 ghost use mathlib.Core.Path.{_≡_};
 ghost use lib.ListN.{take};
-ghost use Rattle.machine.specs.Machine.{machineOf};
+ghost use Rattle.machine.specs.Lent.{atEntry};
 ghost use Rattle.links.specs.Check.{firstOf, noInstruction, checkOf, checkNodeOf};
 
 mod nodes;
@@ -33,7 +33,7 @@ fn first_bad_address(mem: &[u32], m: u32, k: u32) -> u32
 }
 
 pub fn check(r: Record, mem: &[u32], table: &[u32]) -> Checked
-    ensures { λ c. ⌜ c ≡ checkOf (machineOf r (now (mem .entry)) (now (table .entry))) ⌝ }
+    ensures { λ c. ⌜ c ≡ checkOf (atEntry r mem table) ⌝ }
 {
     if r.has_bad_sizes(mem, table) {
         return Checked {
@@ -63,7 +63,7 @@ pub fn check(r: Record, mem: &[u32], table: &[u32]) -> Checked
 
 // The refusal of one node, 0 for none; the code words are not looked at.
 pub fn check_node(r: Record, node: u32, mem: &[u32], table: &[u32]) -> u32
-    ensures { λ a. ⌜ a ≡ checkNodeOf (machineOf r (now (mem .entry)) (now (table .entry))) node ⌝ }
+    ensures { λ a. ⌜ a ≡ checkNodeOf (atEntry r mem table) node ⌝ }
 {
     if r.has_bad_sizes(mem, table) {
         return 10;
