@@ -1,57 +1,65 @@
 -- What a refusal of 0 tells. Assumes nothing.
-use mathlib.Core.Path.{_≡_, sym, _∙_}
-use mathlib.Core.Bool.{true, false, not}
+use mathlib.Core.Path.{_≡_, refl, sym, _∙_}
+use mathlib.Core.Bool.{Bool, true, false, not, true≢false}
 use mathlib.Core.List.{List}
 use Prim.Native.Nat.{ℕ, _-_, _*_, _<_, _≤_}
 use native.Mathlib.Omega.{arith}
 use lib.Dec.{eqb, ltb, leb}
 use lib.ListN.{length}
-use borrow.Author.Tests.{leb-true, ltb-true, ltb-false, not-false}
-use Rattle.word.specs.Word.{pick}
-use Rattle.word.proofs.Words.{and-true, pick-second}
+use borrow.Author.Tests.{leb-true, ltb-true, ltb-false, eqb-true, eq-eqb, not-false}
+use Rattle.word.specs.Refusal.{refuse}
+use Rattle.word.proofs.Words.{and-true}
+use Rattle.word.proofs.Refusal.{refuse-passed}
 use Rattle.step.specs.Table.{tableWords}
 use Rattle.step.specs.Sizes.{maxWords, maxNodes, inRange, isEnough, badSizes}
 use Rattle.step.proofs.Views.{view-long}
-use Rattle.machine.specs.declared.Record.{Record}
 use Rattle.machine.specs.Machine.{statusOf, Machine, stateOf, wrongSizes}
-use Rattle.image.specs.Format.{wordAt, newest, backAt, backOf, trailerIn, stateIn, backIn}
-use Rattle.image.specs.Load.{badLength, hasLast, isCut, fileRefusal, loadRefusal, startIn}
+use Rattle.image.specs.declared.trailer.Trailer.{Trailer}
+use Rattle.image.specs.Format.{newest, backOf}
+use Rattle.image.specs.Load.{badLength, hasLast, isCut, backBy, fileRefusal, loadRefusal, startOf}
 use Rattle.image.specs.Save.{SaveDecided}
 
 -- what the file's refusal of 0 tells
-pub record Passed (s : List ℕ) (rest : ℕ) : Type 0 where
-  pub range : inRange (statusOf (stateIn s)) ≡ true
-  pub within : backIn s ≤ length s
-  pub last : rest ≡ 0
+pub record Passed (t : Trailer) (s : List ℕ) : Type 0 where
+  pub range : inRange (statusOf (t .state)) ≡ true
+  pub within : backBy t ≤ length s
 
-pub file-accepted : (s : List ℕ) (rest : ℕ) → fileRefusal s rest ≡ 0 → Passed s rest
+pub file-accepted : (t : Trailer) (s : List ℕ) → fileRefusal t s ≡ 0 → Passed t s
 unfolding fileRefusal
-file-accepted s rest h =
-    let p = pick-second (badLength s) (λ e. omega (arith, e)) h in
-    let q = pick-second (not (hasLast s)) (λ e. omega (arith, e)) (p .1) in
-    let w = pick-second (isCut s) (λ e. omega (arith, e)) (q .1) in
-    let r = pick-second (not (inRange (statusOf (stateIn s)))) (λ e. omega (arith, e)) (w .1) in
-    let t = pick-second (not (eqb (wordAt (trailerIn s) backAt) (backIn s))) (λ e. omega (arith, e)) (r .1) in
-    let u = pick-second (ltb (length s) (backIn s)) (λ e. omega (arith, e)) (t .1) in
-    record { range = not-false _ (r .0); within = ltb-false (length s) (backIn s) (u .0); last = u .1 }
+file-accepted t s h =
+    let (_, p) = refuse-passed (badLength s) _ _ _ h (λ e. omega (arith, e)) in
+    let (_, q) = refuse-passed (not (hasLast t s)) _ _ _ p (λ e. omega (arith, e)) in
+    let (_, w) = refuse-passed (isCut t s) _ _ _ q (λ e. omega (arith, e)) in
+    let (range, r) = refuse-passed (not (inRange (statusOf (t .state)))) _ _ _ w (λ e. omega (arith, e)) in
+    let (_, u) = refuse-passed (not (eqb (t .back) (backBy t))) _ _ _ r (λ e. omega (arith, e)) in
+    let (within, _) = refuse-passed (ltb (length s) (backBy t)) _ _ _ u (λ e. omega (arith, e)) in
+    record { range = not-false _ range; within = ltb-false (length s) (backBy t) within }
 
--- what load goes on with, r being the record as it read it
-pub record Loadable (s mem table : List ℕ) (r : Record) : Type 0 where
-  pub within : 4 * r .m ≤ length s - startIn s
-  pub memory : r .m ≤ length mem
-  pub links : tableWords (r .n) ≤ length table
+-- a refusal, or where it is 0 what follows it, is 0 where both are
+both-none : (n rest : ℕ) → refuse (not (eqb n 0)) n rest ≡ 0 → (n ≡ 0) × (rest ≡ 0)
+unfolding refuse
+both-none n rest = go (eqb n 0) refl
+  where
+    go : (b : Bool) → eqb n 0 ≡ b → refuse (not b) n rest ≡ 0 → (n ≡ 0) × (rest ≡ 0)
+    go true h e = (eqb-true n 0 h, e)
+    go false h e = absurd (true≢false (sym (eq-eqb n 0 e) ∙ h))
 
-pub load-accepted : (s mem table : List ℕ) {n : ℕ} {r : Record} → n ≡ loadRefusal s mem table → n ≡ 0 → r ≡ stateIn s → Loadable s mem table r
-load-accepted s mem table f z e =
-    let h = sym f ∙ z in
-    let p = file-accepted s (pick (not (isEnough (statusOf (stateIn s)) (length mem) (length table))) 6 0) h in
-    let t = pick-second (not (isEnough (statusOf (stateIn s)) (length mem) (length table))) (λ e. omega (arith, e)) (p .last) in
-    let q = and-true (leb (stateIn s .m) (length mem)) (leb (tableWords (stateIn s .n)) (length table)) (not-false _ (t .0)) in
-    record {
-      within = rw e (let h = p .within in omega arith);
-      memory = rw e (leb-true _ _ (q .0));
-      links = rw e (leb-true _ _ (q .1));
-    }
+-- what load goes on with
+pub record Loadable (t : Trailer) (s mem table : List ℕ) : Type 0 where
+  pub passed : Passed t s
+  pub within : 4 * t .state .m ≤ length s - startOf t s
+  pub memory : t .state .m ≤ length mem
+  pub links : tableWords (t .state .n) ≤ length table
+
+pub load-accepted : (t : Trailer) (s mem table : List ℕ) → loadRefusal t s mem table ≡ 0 → Loadable t s mem table
+unfolding loadRefusal
+load-accepted t s mem table h =
+    let (f, g) = both-none (fileRefusal t s) _ h in
+    let p = file-accepted t s f in
+    let l = p .within in
+    let (e, _) = refuse-passed (not (isEnough (statusOf (t .state)) (length mem) (length table))) _ _ _ g (λ e. omega (arith, e)) in
+    let (a, b) = and-true (leb (t .state .m) (length mem)) (leb (tableWords (t .state .n)) (length table)) (not-false _ e) in
+    record { passed = p; within = omega arith; memory = leb-true _ _ a; links = leb-true _ _ b }
 
 -- sizes that are not wrong
 pub record Sized (x : Machine) : Type 0 where
@@ -90,6 +98,6 @@ pub record Saving (x : Machine) (out : List ℕ) : Type 0 where
 
 pub save-accepted : {x : Machine} {out : List ℕ} {n : ℕ} → SaveDecided x out n → n ≡ 0 → Saving x out
 save-accepted {x} {out} d z =
-    let p = pick-second (wrongSizes x) (λ e. omega (arith, e)) (sym (d .answer) ∙ z) in
-    let q = pick-second (ltb (length out) (backOf newest (x .state))) (λ e. omega (arith, e)) (p .1) in
-    record { right = p .0; sizes = sized x (p .0); room = ltb-false _ _ (q .0) }
+    let (w, p) = refuse-passed (wrongSizes x) _ _ _ (sym (d .answer) ∙ z) (λ e. omega (arith, e)) in
+    let (r, _) = refuse-passed (ltb (length out) (backOf newest (x .state))) _ _ _ p (λ e. omega (arith, e)) in
+    record { right = w; sizes = sized x w; room = ltb-false _ _ r }

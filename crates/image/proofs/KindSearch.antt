@@ -6,8 +6,9 @@ use Prim.Native.Nat.{ℕ, _+_, _<_, _≤_}
 use native.Mathlib.Numerals.{add-one}
 use lib.ListN.{length, getD, drop, drop-of-length-le}
 use lib.Seq.{drop-cons}
+use Rattle.word.specs.Lists.{same}
 use Rattle.image.specs.declared.kinds.Kind.{Kind}
-use Rattle.image.specs.Format.{oldest, same, kindBy}
+use Rattle.image.specs.Format.{oldest, kindBy}
 
 -- the loop's invariant: from row i on the search finds what it finds in all rows
 module _ (ks : List Kind) (l : List ℕ) (i : ℕ) (v : kindBy (drop i ks) l ≡ kindBy ks l) where

@@ -1,6 +1,6 @@
 -- Load reads back what save writes, behind any preface, and leaves what can be saved. Assumes nothing.
 use mathlib.Core.Path.{_≡_, refl, sym, ap, _∙_, subst}
-use mathlib.Core.Bool.{true, not}
+use mathlib.Core.Bool.{true}
 use mathlib.Core.List.{List, _∷_, _++_, append-assoc}
 use Prim.Native.Nat.{ℕ, zero, suc, _+_, _-_, _*_, _≤_}
 use native.Mathlib.Omega.{arith}
@@ -8,7 +8,9 @@ use lib.Dec.{leb}
 use lib.ListN.{length, getD, take, drop, length-append}
 use lib.Seq.{take-at, take-all, drop-at, length-take-le, getD-append-add}
 use borrow.Author.Tests.{le-ltb, le-leb, eq-eqb}
-use Rattle.word.specs.Word.{pick}
+use Rattle.word.specs.Lists.{same}
+use Rattle.word.specs.Refusal.{refuse}
+use Rattle.word.proofs.Lists.{same-self}
 use Rattle.word.proofs.Bits.{joined}
 use Rattle.step.specs.View.{Words}
 use Rattle.step.specs.Table.{tableWords}
@@ -16,14 +18,13 @@ use Rattle.step.specs.Sizes.{isEnough, badSizes}
 use Rattle.machine.specs.declared.Record.{Record}
 use Rattle.machine.specs.Machine.{statusOf, positioned, Machine, State, stateOf}
 use Rattle.image.specs.declared.kinds.Kind.{Kind}
-use Rattle.image.specs.Format.{bytesOf, wordAt, wordsOf, kinds, newest, oldest, same, kindBy, backAt, mAt, kAt, nAt, regsAt, qifvAt, qifwAt, positionAt, wordCount, trailerLength, backOf, further, tailWords, trailerWords, trailerBytes, recordIn, kept, keptIn, image, lastBytes, kindOf, trailerIn, stateIn}
+use Rattle.image.specs.Format.{bytesOf, wordAt, wordsOf, kinds, newest, oldest, kindBy, backAt, mAt, kAt, nAt, regsAt, qifvAt, qifwAt, positionAt, wordCount, trailerLength, backOf, further, tailWords, trailerWords, trailerBytes, recordIn, kept, keptIn, image, lastBytes, kindOf, trailerIn, stateIn, trailerOf}
 use Rattle.image.specs.Load.{maxFile, fileRefusal, loadRefusal, imageIn, filled, LoadPromise, prefaceOf}
 use Rattle.image.specs.Claims.{Backs, Row, KindsFound, TakesBoth, Keeps, restored, ReadsAs, Savable, ImageLength, ImageLoads, LoadedSaves, SaveAccepts, SavedLoads}
 use Rattle.image.proofs.Bytes.{length-bytes, length-words, bytes-append, read-back, words-back}
 use Rattle.machine.proofs.Given.{words-take}
 use Rattle.image.proofs.Given.{words-cons, words-append}
-use Rattle.image.proofs.Parts.{same-refl}
-use Rattle.image.proofs.Accepted.{file-accepted, Sized, sized, save-accepted}
+use Rattle.image.proofs.Accepted.{load-accepted, Sized, sized, save-accepted}
 
 -- ---- lists
 
@@ -144,19 +145,20 @@ module _ (kind : Kind) (x : Machine) (row : Row kind) (v : Savable x) where
     image-found : lastBytes (backOf kind r) file ≡ image kind s
     image-found = last-behind p (image kind s) (backOf kind r) image-length
 
-    file-passes : (rest : ℕ) → fileRefusal file rest ≡ rest
-    unfolding fileRefusal
-    file-passes rest =
+    file-passes : fileRefusal (trailerOf file) file ≡ 0
+    unfolding fileRefusal refuse
+    file-passes =
         let n = file-long in
-        rw (state-found, trailer-found, kind-found, bytes-last, same-refl (kind .last), sizes .range, le-ltb (length file) (trailerLength kind) (omega arith), eq-eqb (wordAt t backAt) (backOf kind r) (word-back backAt), le-leb (trailerLength oldest) (length file) (omega arith), le-leb (length file) maxFile (omega arith), le-ltb (length file) (backOf kind r) (omega arith))
+        rw (state-found, trailer-found, kind-found, bytes-last, same-self (kind .last), sizes .range, le-ltb (length file) (trailerLength kind) (omega arith), eq-eqb (wordAt t backAt) (backOf kind r) (word-back backAt), le-leb (trailerLength oldest) (length file) (omega arith), le-leb (length file) maxFile (omega arith), le-ltb (length file) (backOf kind r) (omega arith))
 
     preface-found : prefaceOf file ≡ p
     preface-found =
-        rw (file-passes 0, state-found, kind-found) (take-at p (image kind s) (length file - backOf kind r) (omega (arith, file-long)))
+        rw (file-passes, state-found, kind-found) (take-at p (image kind s) (length file - backOf kind r) (omega (arith, file-long)))
 
     module _ {a b : List ℕ} {n : ℕ} {y : Machine} (l : LoadPromise file a b n y) (e : isEnough (statusOf r) (length a) (length b) ≡ true) where
-      load-passes : loadRefusal file a b ≡ 0
-      load-passes = file-passes (pick (not (isEnough (statusOf (stateIn file)) (length a) (length b))) 6 0) ∙ rw (state-found, e)
+      load-passes : loadRefusal (trailerOf file) file a b ≡ 0
+      unfolding loadRefusal refuse
+      load-passes = rw (file-passes, state-found, e)
 
       memory-back : wordsOf (r .m) (image kind s) ≡ s .words
       memory-back = all-back (s .words) (bytesOf (s .links) ++ trailerBytes kind r) (length-take-le (r .m) (x .memory) (sizes .memory)) (v .bounds .turn .view .words)
@@ -202,6 +204,7 @@ pub image-loads : ImageLoads
 image-loads kind x p row v h = reads-back kind x row v p h
 
 pub save-accepts : SaveAccepts
+unfolding refuse
 save-accepts x out a out′ s w h = s .decided .answer ∙ rw (w, le-ltb (length out) (backOf newest (x .state)) h)
 
 pub saved-loads : SavedLoads
@@ -222,6 +225,7 @@ saved-loads x out out′ s =
 pub loaded-saves : LoadedSaves
 unfolding badSizes
 loaded-saves s a b n x p z =
-    let f : loadRefusal s a b ≡ 0 = sym (p .refusal) ∙ z in
-    let g = file-accepted s (pick (not (isEnough (statusOf (stateIn s)) (length a) (length b))) 6 0) f in
-    rw (p .machine, f, g .range, filled-long (stateIn s .m) (imageIn s) a, filled-long (tableWords (stateIn s .n)) (drop (4 * stateIn s .m) (imageIn s)) b)
+    let t = trailerOf s in
+    let f : loadRefusal t s a b ≡ 0 = sym (p .refusal) ∙ z in
+    let g = load-accepted t s a b f in
+    rw (p .machine, f, g .passed .range, filled-long (t .state .m) (imageIn t s) a, filled-long (tableWords (t .state .n)) (drop (4 * t .state .m) (imageIn t s)) b)

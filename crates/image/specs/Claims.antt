@@ -7,12 +7,13 @@ use lib.IntN.{pos, negsuc}
 use lib.ListN.{length, getD, take, drop}
 use mir.Syntax.{w64}
 use mir.Val.{SFits}
+use Rattle.word.specs.Lists.{same}
 use Rattle.step.specs.Table.{tableWords}
 use Rattle.step.specs.Sizes.{isEnough}
 use Rattle.machine.specs.declared.Record.{Record}
 use Rattle.machine.specs.Machine.{statusOf, positioned, zeros, Machine, machineOf, State, stateOf, wrongSizes}
 use Rattle.image.specs.declared.kinds.Kind.{Kind}
-use Rattle.image.specs.Format.{qrm1, qrm2, kinds, newest, same, kindBy, backOf, trailerBytes, kept, keptIn, image, lastBytes}
+use Rattle.image.specs.Format.{qrm1, qrm2, kinds, newest, kindBy, backOf, trailerBytes, kept, keptIn, image, lastBytes}
 use Rattle.image.specs.Load.{maxFile, LoadPromise, prefaceOf}
 use Rattle.image.specs.Save.{SaveBounds, SavePromise}
 

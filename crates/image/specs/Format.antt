@@ -1,18 +1,19 @@
 -- An image (document 01, "Image"; document 02, #104): M memory words, 9 N table words and a trailer, as little-endian bytes.
 -- Writing and reading both go by this file, and over the kinds of image.
 use Prim.Native.Nat.{ℕ, zero, suc, _+_, _-_, _*_, _/_, _%_, _^_}
-use mathlib.Core.Bool.{Bool, true, false, _&&_}
 use mathlib.Core.List.{List, [], _∷_, _++_}
-use lib.Dec.{eqb}
 use lib.IntN.{ℤ}
 use lib.ListN.{length, getD, take, drop}
 use mir.Syntax.{w64}
 use mir.Val.{ofZ, toZ}
 use Rattle.word.specs.Word.{pick}
+use Rattle.word.specs.Lists.{same}
 use Rattle.step.specs.Table.{tableWords}
+use Rattle.step.specs.View.{sized, withNode}
 use Rattle.machine.specs.declared.Record.{Record}
-use Rattle.machine.specs.Machine.{positioned, State}
+use Rattle.machine.specs.Machine.{newRecord, positioned, State}
 use Rattle.image.specs.declared.kinds.Kind.{Kind}
+use Rattle.image.specs.declared.trailer.Trailer.{Trailer}
 
 -- ---- words as bytes
 
@@ -55,13 +56,6 @@ newest = qrm2
 
 abbrev pub oldest : Kind
 oldest = qrm1
-
--- the bytes a and b are the same
-unfoldable pub same : List ℕ → List ℕ → Bool
-same [] [] = true
-same [] (y ∷ b) = false
-same (x ∷ a) [] = false
-same (x ∷ a) (y ∷ b) = eqb x y && same a b
 
 -- the first of the kinds ks with the last bytes l, the oldest where there is none
 unfoldable pub kindBy : List Kind → List ℕ → Kind
@@ -136,15 +130,9 @@ trailerBytes kind r = bytesOf (trailerWords kind r) ++ kind .last
 -- read back from the bytes t of the words, where a word that its kind lacks is 0
 unfoldable pub recordIn : List ℕ → Record
 recordIn t =
-    record {
-      regs = wordsOf 16 (drop (4 * regsAt) t);
-      qifv = wordAt t qifvAt;
-      qifw = wordAt t qifwAt;
-      k = wordAt t kAt;
-      m = wordAt t mAt;
-      n = wordAt t nAt;
-      position = positionOf (wordAt t positionAt) (wordAt t (positionAt + 1));
-    }
+    let sizes = sized (wordAt t kAt) (wordAt t mAt) (wordAt t nAt) in
+    let at = withNode sizes (wordAt t qifvAt) (wordAt t qifwAt) in
+    positioned (newRecord at (wordsOf 16 (drop (4 * regsAt) t))) (positionOf (wordAt t positionAt) (wordAt t (positionAt + 1)))
 
 -- r as an image of the kind has it, where a word that it lacks is 0
 abbrev pub kept : Kind → Record → Record
@@ -178,6 +166,6 @@ trailerIn s = take (4 * wordCount (kindOf s)) (lastBytes (trailerLength (kindOf 
 abbrev pub stateIn : List ℕ → Record
 stateIn s = recordIn (trailerIn s)
 
--- back by the formula
-abbrev pub backIn : List ℕ → ℕ
-backIn s = backOf (kindOf s) (stateIn s)
+-- what the trailer says
+abbrev pub trailerOf : List ℕ → Trailer
+trailerOf s = record { kind = kindOf s; back = wordAt (trailerIn s) backAt; state = stateIn s }

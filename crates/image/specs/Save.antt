@@ -5,13 +5,17 @@ use mathlib.Core.List.{List, _++_}
 use lib.Dec.{eqb, ltb}
 use lib.ListN.{length, drop}
 use Rattle.word.specs.Word.{pick}
+use Rattle.word.specs.Refusal.{refuse}
 use Rattle.step.specs.View.{Words}
 use Rattle.machine.specs.Machine.{Machine, stateOf, wrongSizes, Bounded}
 use Rattle.image.specs.Format.{newest, backOf, tailWords, image}
 
 -- 10, as in a turn, then 9
 abbrev pub saveOf : Machine → List ℕ → ℕ
-saveOf x out = pick (wrongSizes x) 10 (pick (ltb (length out) (backOf newest (x .state))) 9 0)
+saveOf x out =
+    refuse (wrongSizes x) 10
+    (refuse (ltb (length out) (backOf newest (x .state))) 9
+    0)
 
 -- the output at exit: the image at its front and the rest as it was, or untouched
 abbrev pub outAfterSave : Machine → List ℕ → List ℕ

@@ -1,6 +1,7 @@
 // Kinds of image.
 ghost use mathlib.Core.Path.{_≡_};
-ghost use Rattle.image.specs.Format.{same, lastBytes, kindOf};
+ghost use Rattle.word.specs.Lists.{same};
+ghost use Rattle.image.specs.Format.{lastBytes, kindOf};
 
 // A kind of image: its last four bytes, and the words that its trailer has more than the first kind's.
 pub(crate) struct Kind {

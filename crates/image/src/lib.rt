@@ -17,9 +17,10 @@ use kinds::NEWEST;
 use machine::Record;
 use step::sizes::is_enough;
 use step::table::table_words;
+use trailer::Trailer;
 use trailer::back_of;
 use trailer::file_refusal;
-use trailer::record_of;
+use trailer::read_trailer;
 use trailer::start_of;
 use words::read_words;
 use words::write_words;
@@ -33,13 +34,19 @@ pub struct Loaded {
 
 // ---- load and preface
 
-// Load's refusal, 0 for none.
-fn load_refusal(file: &[u8], mem: &[u32], table: &[u32]) -> u32
-    ensures { λ r. ⌜ r ≡ loadRefusal (now (file .entry)) (now (mem .entry)) (now (table .entry)) ⌝ }
+// Load's refusal, 0 for none: the file's, then 6.
+fn load_refusal(t: Trailer, file: &[u8], mem: &[u32], table: &[u32]) -> u32
+    ensures { λ r. ⌜ r ≡ loadRefusal t (now (file .entry)) (now (mem .entry)) (now (table .entry)) ⌝ }
 {
-    let r = record_of(file);
-    let short = !is_enough(r.status(), mem, table);
-    file_refusal(file, word::choose(short, 6, 0))
+    let refusal = file_refusal(t, file);
+    if refusal != 0 {
+        return refusal;
+    }
+    let r = t.state;
+    if !is_enough(r.status(), mem, table) {
+        return 6;
+    }
+    0
 }
 
 // Fills the first m words of mem and the first n of table from an image.
@@ -57,15 +64,16 @@ fn fill(image: &[u8], m: usize, n: usize, mem: &mut [u32], table: &mut [u32])
 pub fn load(file: &[u8], mem: &mut [u32], table: &mut [u32]) -> Loaded
     ensures { λ a. ⌜ LoadPromise (now (file .entry)) (now (mem .entry)) (now (table .entry)) (a .refusal) (machineOf (a .state) (now (mem .exit)) (now (table .exit))) ⌝ }
 {
-    let refusal = load_refusal(file, mem, table);
+    let t = read_trailer(file);
+    let refusal = load_refusal(t, file, mem, table);
     if refusal != 0 {
         return Loaded {
             refusal,
             state: Record::zero(),
         };
     }
-    let r = record_of(file);
-    let at = start_of(file);
+    let r = t.state;
+    let at = start_of(t, file);
     fill(&file[at..], r.m as usize, table_words(r.n), mem, table);
     Loaded { refusal, state: r }
 }
@@ -74,10 +82,11 @@ pub fn load(file: &[u8], mem: &mut [u32], table: &mut [u32]) -> Loaded
 pub fn preface(file: &[u8]) -> &[u8]
     ensures { λ r. ⌜ now r ≡ prefaceOf (now (file .entry)) ⌝ }
 {
-    if file_refusal(file, 0) != 0 {
+    let t = read_trailer(file);
+    if file_refusal(t, file) != 0 {
         return &file[..0];
     }
-    let at = start_of(file);
+    let at = start_of(t, file);
     &file[..at]
 }
 
@@ -100,8 +109,13 @@ fn write_image(r: Record, mem: &[u32], table: &[u32], out: &mut [u8])
 fn save_refusal(r: Record, mem: &[u32], table: &[u32], out: &[u8]) -> u32
     ensures { λ a. ⌜ SaveDecided (machineOf r (now (mem .entry)) (now (table .entry))) (now (out .entry)) a ⌝ }
 {
-    let short = out.len() < back_of(NEWEST, r);
-    word::choose(r.has_bad_sizes(mem, table), 10, word::choose(short, 9, 0))
+    if r.has_bad_sizes(mem, table) {
+        return 10;
+    }
+    if out.len() < back_of(NEWEST, r) {
+        return 9;
+    }
+    0
 }
 
 pub fn save(r: Record, mem: &[u32], table: &[u32], out: &mut [u8]) -> u32

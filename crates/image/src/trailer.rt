@@ -3,8 +3,8 @@ ghost use mathlib.Core.Path.{_≡_};
 ghost use mathlib.Core.List.{_++_};
 ghost use Prim.Native.Nat.{_*_, _^_, _<_, _≤_};
 ghost use lib.ListN.{length, drop};
-ghost use Rattle.image.specs.Format.{bytesOf, newest, wordCount, trailerLength, backOf, tailWords, trailerWords, trailerBytes, recordIn, trailerIn, stateIn};
-ghost use Rattle.image.specs.Load.{fileRefusal, startIn};
+ghost use Rattle.image.specs.Format.{bytesOf, newest, wordCount, trailerLength, backOf, tailWords, trailerWords, trailerBytes, recordIn, trailerOf};
+ghost use Rattle.image.specs.Load.{fileRefusal, startOf};
 use crate::kinds::Kind;
 use crate::kinds::LAST;
 use crate::kinds::NEWEST;
@@ -18,6 +18,7 @@ use crate::words::read_words;
 use crate::words::rest_of;
 use crate::words::write_words;
 use machine::Record;
+use step::Status;
 use step::sizes::is_in_range;
 use step::table::table_words;
 use word::signed::bits_of;
@@ -49,6 +50,13 @@ const MORE: usize = QIFW + 1;
 
 const POSITION: usize = MORE;
 
+// What a trailer says: the kind of its image, the back that is stored in it, and the record.
+pub(crate) struct Trailer {
+    pub(crate) kind: Kind,
+    pub(crate) back: u32,
+    pub(crate) state: Record,
+}
+
 // ---- lengths
 
 // The words of a trailer before its last bytes.
@@ -74,65 +82,68 @@ pub(crate) fn back_of(kind: Kind, r: Record) -> usize
 
 // ---- reading
 
-// The bytes of the words of the trailer that ends the file.
-fn trailer_in(file: &[u8]) -> &[u8]
-    ensures { λ t. ⌜ now t ≡ trailerIn (now (file .entry)) ⌝ }
-{
-    let kind = kind_of(file);
-    first_bytes(last_bytes(file, length_of(kind)), 4 * word_count(kind))
-}
-
 // The record of the trailer's words t; a word that t lacks is 0.
 fn read_record(t: &[u8]) -> Record
     ensures { λ r. ⌜ r ≡ recordIn (now (t .entry)) ⌝ }
 {
     let mut regs = [0u32; 16];
     read_words(rest_of(t, 4 * REGS), &mut regs);
-    Record {
-        regs,
-        qifv: read_word(t, QIFV),
-        qifw: read_word(t, QIFW),
-        k: read_word(t, K),
-        m: read_word(t, M),
-        n: read_word(t, N),
-        position: of_bits(join(read_word(t, POSITION), read_word(t, POSITION + 1))),
+    let sizes = Status::sized(read_word(t, K), read_word(t, M), read_word(t, N));
+    let at = sizes.with_node(read_word(t, QIFV), read_word(t, QIFW));
+    let p = of_bits(join(read_word(t, POSITION), read_word(t, POSITION + 1)));
+    Record::new(at, regs).at_position(p)
+}
+
+// What the trailer that ends the file says.
+pub(crate) fn read_trailer(file: &[u8]) -> Trailer
+    ensures { λ t. ⌜ t ≡ trailerOf (now (file .entry)) ⌝ }
+{
+    let kind = kind_of(file);
+    let words = first_bytes(last_bytes(file, length_of(kind)), 4 * word_count(kind));
+    Trailer {
+        kind,
+        back: read_word(words, BACK),
+        state: read_record(words),
     }
 }
 
-// The record of the trailer that ends the file.
-pub(crate) fn record_of(file: &[u8]) -> Record
-    ensures { λ r. ⌜ r ≡ stateIn (now (file .entry)) ⌝ }
-{
-    read_record(trailer_in(file))
-}
-
 // Where the first memory byte stands: back before the file's end.
-pub(crate) fn start_of(file: &[u8]) -> usize
-    ensures { λ a. ⌜ a ≡ startIn (now (file .entry)) ⌝ }
+pub(crate) fn start_of(t: Trailer, file: &[u8]) -> usize
+    ensures { λ a. ⌜ a ≡ startOf t (now (file .entry)) ⌝ }
 {
-    let back = back_of(kind_of(file), record_of(file));
+    let back = back_of(t.kind, t.state);
     if file.len() < back {
         return 0;
     }
     file.len() - back
 }
 
-// Refusals 1, 2, 1 and 3 to 5, in this order, else rest.
-pub(crate) fn file_refusal(file: &[u8], rest: u32) -> u32
-    ensures { λ r. ⌜ r ≡ fileRefusal (now (file .entry)) rest ⌝ }
+// The file's refusal, 0 for none: 1, 2, 1 and 3 to 5, in this order.
+pub(crate) fn file_refusal(t: Trailer, file: &[u8]) -> u32
+    ensures { λ r. ⌜ r ≡ fileRefusal t (now (file .entry)) ⌝ }
 {
-    let kind = kind_of(file);
-    let t = trailer_in(file);
-    let r = read_record(t);
+    let kind = t.kind;
+    let r = t.state;
+    if !word::both(length_of(OLDEST) <= file.len(), file.len() <= MAX_FILE) {
+        return 1;
+    }
+    if !has_last(file, kind) {
+        return 2;
+    }
+    if file.len() < length_of(kind) {
+        return 1;
+    }
+    if !is_in_range(r.status()) {
+        return 3;
+    }
     let back = back_of(kind, r);
-    let stored = read_word(t, BACK) as usize;
-    let from_5 = word::choose(file.len() < back, 5, rest);
-    let from_4 = word::choose(!(stored == back), 4, from_5);
-    let from_3 = word::choose(!is_in_range(r.status()), 3, from_4);
-    let whole = word::choose(file.len() < length_of(kind), 1, from_3);
-    let from_2 = word::choose(!has_last(file, kind), 2, whole);
-    let fits = word::both(length_of(OLDEST) <= file.len(), file.len() <= MAX_FILE);
-    word::choose(!fits, 1, from_2)
+    if t.back as usize != back {
+        return 4;
+    }
+    if file.len() < back {
+        return 5;
+    }
+    0
 }
 
 // ---- writing

@@ -11,15 +11,17 @@ pub preface-spec : {M : Type 1} → statement M
 preface-spec =
     tie.close
     (tie.spec
-    (λ c κs. search needs) (λ c. search needs)
+    (λ c κs. search needs) (λ c κs. search needs) (λ c. search needs)
     (λ c.
     let f = c .before .before in
-    preface-refuses (now (f .before .before .args .file)) (f .file-refusal .ensures) (c .before .if1 .taken))
+    let t = f .before in
+    preface-refuses (now (t .before .before .args .file)) (t .read-trailer .ensures) (f .file-refusal .ensures) (c .before .if1 .taken))
     (λ c κs. search needs)
     (λ c.
     let f = c .before .before .before in
     let e = c .before .start-of .ensures in
-    sym (length-take-le _ (now (f .before .before .args .file)) (omega arith)))
+    sym (length-take-le _ (now (f .before .before .before .args .file)) (omega arith)))
     (λ c.
     let f = c .before .before .before in
-    preface-accepts (now (f .before .before .args .file)) (f .file-refusal .ensures) (c .before .before .if1 .left) (c .before .start-of .ensures)))
+    let t = f .before in
+    preface-accepts (now (t .before .before .args .file)) (t .read-trailer .ensures) (f .file-refusal .ensures) (c .before .before .if1 .left) (c .before .start-of .ensures)))

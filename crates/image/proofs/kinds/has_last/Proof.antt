@@ -1,8 +1,8 @@
 use mathlib.Core.Path.{ap, _∙_}
 use mathlib.Core.List.{List}
 use Prim.Native.Nat.{ℕ}
-use Rattle.image.specs.Format.{same}
-use Rattle.image.proofs.Parts.{same-test}
+use Rattle.word.specs.Lists.{same}
+use Rattle.word.proofs.Lists.{same-test}
 use borrow.Author.Needs.{needs}
 use Rattle.image.proofs.kinds.has_last.Statement.{statement}
 use Rattle.image.proofs.kinds.has_last.Tie as tie
