@@ -3,6 +3,7 @@ ghost use mathlib.Core.Path.{_≡_};
 ghost use Rattle.step.specs.declared.Direction.{Direction};
 ghost use Rattle.machine.specs.Lent.{atEntry, atExit};
 ghost use Rattle.machine.specs.Machine.{machineOf};
+ghost use Rattle.machine.specs.Lent.{atEntry, atExit};
 ghost use Rattle.machine.specs.Calls.{TurnPromise};
 ghost use Rattle.machine.specs.Batch.{BatchPromise};
 ghost use Rattle.machine.specs.Preview.{PreviewPromise};
@@ -33,42 +34,42 @@ pub extern "C" fn qins_is_instruction(w: u32) -> u32
 
 #[no_mangle]
 pub extern "C" fn crank_forward(r: Record, mem: &mut [u32], table: &[u32]) -> Turned
-    ensures { λ a. ⌜ TurnPromise Direction.Forward (machineOf r (now (mem .entry)) (now (table .entry))) (a .refusal) (machineOf (a .state) (now (mem .exit)) (now (table .entry))) ⌝ }
+    ensures { λ a. ⌜ TurnPromise Direction.Forward (atEntry r mem table) (a .refusal) (atExit (a .state) mem table) ⌝ }
 {
     r.forward(mem, table)
 }
 
 #[no_mangle]
 pub extern "C" fn crank_back(r: Record, mem: &mut [u32], table: &[u32]) -> Turned
-    ensures { λ a. ⌜ TurnPromise Direction.Back (machineOf r (now (mem .entry)) (now (table .entry))) (a .refusal) (machineOf (a .state) (now (mem .exit)) (now (table .entry))) ⌝ }
+    ensures { λ a. ⌜ TurnPromise Direction.Back (atEntry r mem table) (a .refusal) (atExit (a .state) mem table) ⌝ }
 {
     r.back(mem, table)
 }
 
 #[no_mangle]
 pub extern "C" fn crank_preview_forward(r: Record, mem: &[u32], table: &[u32]) -> Preview
-    ensures { λ a. ⌜ PreviewPromise Direction.Forward (machineOf r (now (mem .entry)) (now (table .entry))) a ⌝ }
+    ensures { λ a. ⌜ PreviewPromise Direction.Forward (atEntry r mem table) a ⌝ }
 {
     r.preview_forward(mem, table)
 }
 
 #[no_mangle]
 pub extern "C" fn crank_preview_back(r: Record, mem: &[u32], table: &[u32]) -> Preview
-    ensures { λ a. ⌜ PreviewPromise Direction.Back (machineOf r (now (mem .entry)) (now (table .entry))) a ⌝ }
+    ensures { λ a. ⌜ PreviewPromise Direction.Back (atEntry r mem table) a ⌝ }
 {
     r.preview_back(mem, table)
 }
 
 #[no_mangle]
 pub extern "C" fn crank_forward_batch(r: Record, n: u32, mem: &mut [u32], table: &[u32]) -> Batch
-    ensures { λ a. ⌜ BatchPromise Direction.Forward n (machineOf r (now (mem .entry)) (now (table .entry))) (a .turns) (a .refusal) (machineOf (a .state) (now (mem .exit)) (now (table .entry))) ⌝ }
+    ensures { λ a. ⌜ BatchPromise Direction.Forward n (atEntry r mem table) (a .turns) (a .refusal) (atExit (a .state) mem table) ⌝ }
 {
     r.forward_batch(n, mem, table)
 }
 
 #[no_mangle]
 pub extern "C" fn crank_back_batch(r: Record, n: u32, mem: &mut [u32], table: &[u32]) -> Batch
-    ensures { λ a. ⌜ BatchPromise Direction.Back n (machineOf r (now (mem .entry)) (now (table .entry))) (a .turns) (a .refusal) (machineOf (a .state) (now (mem .exit)) (now (table .entry))) ⌝ }
+    ensures { λ a. ⌜ BatchPromise Direction.Back n (atEntry r mem table) (a .turns) (a .refusal) (atExit (a .state) mem table) ⌝ }
 {
     r.back_batch(n, mem, table)
 }
@@ -88,7 +89,7 @@ pub extern "C" fn crank_samples(
 
 #[no_mangle]
 pub extern "C" fn crank_load(file: &[u8], mem: &mut [u32], table: &mut [u32]) -> Loaded
-    ensures { λ a. ⌜ LoadPromise (now (file .entry)) (now (mem .entry)) (now (table .entry)) (a .refusal) (machineOf (a .state) (now (mem .exit)) (now (table .exit))) ⌝ }
+    ensures { λ a. ⌜ LoadPromise (now (file .entry)) (now (mem .entry)) (now (table .entry)) (a .refusal) (atExit (a .state) mem table) ⌝ }
 {
     image::load(file, mem, table)
 }
@@ -103,21 +104,21 @@ pub extern "C" fn crank_preface_length(file: &[u8]) -> usize
 
 #[no_mangle]
 pub extern "C" fn crank_save(r: Record, mem: &[u32], table: &[u32], out: &mut [u8]) -> u32
-    ensures { λ a. ⌜ SavePromise (machineOf r (now (mem .entry)) (now (table .entry))) (now (out .entry)) a (now (out .exit)) ⌝ }
+    ensures { λ a. ⌜ SavePromise (atEntry r mem table) (now (out .entry)) a (now (out .exit)) ⌝ }
 {
     image::save(r, mem, table, out)
 }
 
 #[no_mangle]
 pub extern "C" fn crank_check(r: Record, mem: &[u32], table: &[u32]) -> Checked
-    ensures { λ a. ⌜ a ≡ checkOf (machineOf r (now (mem .entry)) (now (table .entry))) ⌝ }
+    ensures { λ a. ⌜ a ≡ checkOf (atEntry r mem table) ⌝ }
 {
     links::check(r, mem, table)
 }
 
 #[no_mangle]
 pub extern "C" fn crank_check_node(r: Record, node: u32, mem: &[u32], table: &[u32]) -> u32
-    ensures { λ a. ⌜ a ≡ checkNodeOf (machineOf r (now (mem .entry)) (now (table .entry))) node ⌝ }
+    ensures { λ a. ⌜ a ≡ checkNodeOf (atEntry r mem table) node ⌝ }
 {
     links::check_node(r, node, mem, table)
 }

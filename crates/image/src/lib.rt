@@ -4,7 +4,7 @@ ghost use mathlib.Core.List.{_++_};
 ghost use Prim.Native.Nat.{_*_, _^_, _<_, _≤_};
 ghost use lib.ListN.{length, take, drop};
 ghost use Rattle.step.specs.Table.{tableWords};
-ghost use Rattle.machine.specs.Machine.{machineOf};
+ghost use Rattle.machine.specs.Lent.{atEntry, atExit};
 ghost use Rattle.image.specs.Format.{newest, backOf, image};
 ghost use Rattle.image.specs.Load.{loadRefusal, filled, LoadPromise, prefaceOf};
 ghost use Rattle.image.specs.Save.{SaveDecided, SavePromise};
@@ -62,7 +62,7 @@ fn fill(image: &[u8], m: usize, n: usize, mem: &mut [u32], table: &mut [u32])
 }
 
 pub fn load(file: &[u8], mem: &mut [u32], table: &mut [u32]) -> Loaded
-    ensures { λ a. ⌜ LoadPromise (now (file .entry)) (now (mem .entry)) (now (table .entry)) (a .refusal) (machineOf (a .state) (now (mem .exit)) (now (table .exit))) ⌝ }
+    ensures { λ a. ⌜ LoadPromise (now (file .entry)) (now (mem .entry)) (now (table .entry)) (a .refusal) (atExit (a .state) mem table) ⌝ }
 {
     let t = read_trailer(file);
     let refusal = load_refusal(t, file, mem, table);
@@ -107,7 +107,7 @@ fn write_image(r: Record, mem: &[u32], table: &[u32], out: &mut [u8])
 
 // Save's refusal, 0 for none; and the bounds of save's arguments, here where the types give them.
 fn save_refusal(r: Record, mem: &[u32], table: &[u32], out: &[u8]) -> u32
-    ensures { λ a. ⌜ SaveDecided (machineOf r (now (mem .entry)) (now (table .entry))) (now (out .entry)) a ⌝ }
+    ensures { λ a. ⌜ SaveDecided (atEntry r mem table) (now (out .entry)) a ⌝ }
 {
     if r.has_bad_sizes(mem, table) {
         return 10;
@@ -119,7 +119,7 @@ fn save_refusal(r: Record, mem: &[u32], table: &[u32], out: &[u8]) -> u32
 }
 
 pub fn save(r: Record, mem: &[u32], table: &[u32], out: &mut [u8]) -> u32
-    ensures { λ a. ⌜ SavePromise (machineOf r (now (mem .entry)) (now (table .entry))) (now (out .entry)) a (now (out .exit)) ⌝ }
+    ensures { λ a. ⌜ SavePromise (atEntry r mem table) (now (out .entry)) a (now (out .exit)) ⌝ }
 {
     let answer = save_refusal(r, mem, table, out);
     if answer != 0 {
