@@ -74,7 +74,7 @@ none-past (suc n) zero l h = absurd (omega arith)
 none-past (suc n) (suc m) [] h = refl
 none-past (suc n) (suc m) (x ∷ l) h = none-past n m l (omega arith)
 
--- a word behind the first kind's 22 is 0
+-- a word after the first kind's 22 is 0
 word-lacking : (s : List ℕ) (i : ℕ) → 22 ≤ i → wordAt (take 88 s) i ≡ 0
 unfolding wordAt
 word-lacking s i h = rw (none-past 88 (4 * i) s (omega arith))

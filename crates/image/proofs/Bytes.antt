@@ -96,7 +96,7 @@ read-back (w ∷ ws) (suc i) k =
     let e : 4 * suc i ≡ suc (suc (suc (suc (4 * i)))) = omega arith in
     rw e (read-back ws i (λ a. k (suc a)))
 
--- a word within the bytes a is the same with more behind them
+-- a word within the bytes a is the same with more after them
 word-within : (a s : List ℕ) (i : ℕ) → 4 * i + 4 ≤ length a → wordAt (a ++ s) i ≡ wordAt a i
 word-within a s i h =
     let at : (j : ℕ) → j < 4 → getD (a ++ s) (4 * i + j) 0 ≡ getD a (4 * i + j) 0 = λ j g. List·getD-append a s 0 (4 * i + j) (omega arith) in

@@ -30,7 +30,7 @@ rest-none s a h = all-left (length s) s ∙ drop-length s ∙ sym (drop-of-lengt
 pub last-all : (s : List ℕ) (n : ℕ) → length s < n → s ≡ lastBytes n s
 last-all s n h = let e : length s - n ≡ 0 = omega arith in rw e
 
--- q written at the front of the part from a on, behind p
+-- q written at the front of the part from a on, after p
 pub behind : (p q out l part : List ℕ) (a n : ℕ) → length p ≡ a → l ≡ p ++ drop a out
     → part ≡ q ++ drop n (midOf a (length l - a) l)
     → putMid a (length l - a) l part ≡ (p ++ q) ++ drop (a + n) out

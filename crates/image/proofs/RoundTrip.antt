@@ -1,4 +1,4 @@
--- Load reads back what save writes, behind any preface, and leaves what can be saved. Assumes nothing.
+-- Load reads back what save writes, after any preface, and leaves what can be saved. Assumes nothing.
 use mathlib.Core.Path.{_≡_, refl, sym, ap, _∙_, subst}
 use mathlib.Core.Bool.{true}
 use mathlib.Core.List.{List, _∷_, _++_, append-assoc}
@@ -73,7 +73,7 @@ module _ (kind : Kind) (x : Machine) (row : Row kind) (v : Savable x) where
       let z = sizes in
       simp (length-append, length-bytes, trailer-long, length-take-le (r .m) (x .memory) (z .memory), length-take-le (tableWords (r .n)) (x .table) (z .links)) (omega arith)
 
-  -- ---- behind a preface
+  -- ---- after a preface
 
   module _ (p : List ℕ) (h : length p + backOf kind r ≤ maxFile) where
     -- the trailer's words read back
@@ -100,7 +100,7 @@ module _ (kind : Kind) (x : Machine) (row : Row kind) (v : Savable x) where
     regs-back =
         rw (bytes-append (r .regs) tail) (all-back (r .regs) (bytesOf tail) (v .bounds .turn .view .sixteen) (v .bounds .turn .view .regs))
 
-    -- word j behind the registers
+    -- word j after the registers
     tail-back : (j : ℕ) → getD (r .regs ++ tail) (16 + j) 0 ≡ getD tail j 0
     tail-back j = ap (λ (n : ℕ). getD (r .regs ++ tail) (n + j) 0) (sym (v .bounds .turn .view .sixteen)) ∙ getD-append-add (r .regs) tail j 0
 

@@ -1,4 +1,4 @@
--- The trailer and the image as their writers leave them: words, words behind them, and bytes behind all. Assumes nothing.
+-- The trailer and the image as their writers leave them: words, words after them, and bytes after all. Assumes nothing.
 use mathlib.Core.Path.{_≡_, refl, sym, ap, _∙_, subst}
 use mathlib.Core.List.{List, [], _∷_, _++_, append-assoc}
 use Prim.Native.Nat.{ℕ, _+_, _-_, _*_, _/_, _%_, _^_}
@@ -17,12 +17,12 @@ use Rattle.image.specs.Format.{bytesOf, newest, regsAt, qifvAt, wordCoun
 use Rattle.image.proofs.Bytes.{length-bytes, bytes-append}
 use Rattle.image.proofs.Parts.{behind}
 
--- the words a stand at the front of l, and behind them what out had there
+-- the words a stand at the front of l, and after them what out had there
 abbrev pub Front : List ℕ → List ℕ → List ℕ → Type 0
 Front a out l = l ≡ bytesOf a ++ drop (4 * length a) out
 
 module _ (a out l : List ℕ) (x : ℕ) (e : x ≡ 4 * length a) (f : Front a out l) where
-  -- q in the part behind them
+  -- q in the part after them
   pub bytes-behind : (q part : List ℕ) (n : ℕ) → part ≡ q ++ drop n (midOf x (length l - x) l)
       → putMid x (length l - x) l part ≡ (bytesOf a ++ q) ++ drop (x + n) out
   bytes-behind q part n g = behind (bytesOf a) q out l part x n (length-bytes a ∙ sym e) (rw e f) g
@@ -42,12 +42,12 @@ position-written {p} f e l h =
     let k = e ∙ ap (ofZ w64) (toZ-ofZ f) in
     rw (l, h, k)
 
--- qifv and qifw, and the position behind them
+-- qifv and qifw, and the position after them
 pub tail-written : (r : Record) (out l : List ℕ) {low high : ℕ} → low ∷ high ∷ [] ≡ further r → Front (r .qifv ∷ r .qifw ∷ low ∷ high ∷ []) out l
     → Front (tailWords newest r) out l
 tail-written r out l e f = subst (λ (w : List ℕ). Front (r .qifv ∷ r .qifw ∷ w) out l) e f
 
--- the sizes, the registers and what is behind them
+-- the sizes, the registers and what is after them
 pub fields-written : (r : Record) (out : List ℕ) {b : ℕ} → length (r .regs) ≡ 16 → b ≡ backOf newest r → (l part l′ part′ : List ℕ)
     → (let head = b ∷ r .m ∷ r .k ∷ r .n ∷ [] in
     let tail = tailWords newest r in
@@ -74,7 +74,7 @@ trailer-written r out {n} s e l part f g =
 
 -- ---- the image
 
--- the M words, the 9 N words behind them and the trailer behind both
+-- the M words, the 9 N words after them and the trailer after both
 module _ (kind : Kind) (r : Record) (words links out : List ℕ) (hm : length words ≡ r .m) (ht : length links ≡ tableWords (r .n)) where
   abbrev at : ℕ
   at = 4 * length words

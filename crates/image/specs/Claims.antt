@@ -44,7 +44,7 @@ pub record Keeps : Type 0 where
   pub newest : (r : Record) → SFits w64 (r .position) → kept newest r ≡ r
   pub first : (r : Record) → kept qrm1 r ≡ positioned r (pos 0)
 
--- Claim: of zeros but for position -2, save's trailer ends in these 12 bytes: the position's 64 bits, low word first, and QRM2
+-- Claim: of zeros except for position -2, save's trailer ends in these 12 bytes: the position's 64 bits, low word first, and QRM2
 abbrev pub PositionBytes : Type 0
 PositionBytes =
     lastBytes 12 (trailerBytes newest (positioned zeros (negsuc 1)))
@@ -74,7 +74,7 @@ LoadedSaves = (s a b : List ℕ) (n : ℕ) (x : Machine) → LoadPromise s a b n
 
 -- ---- what a file is read as
 
--- the state s in lent words a and b, and behind it what they had there
+-- the state s in lent words a and b, and after it what they had there
 abbrev pub restored : State → List ℕ → List ℕ → Machine
 restored s a b = machineOf (s .state) (s .words ++ drop (s .state .m) a) (s .links ++ drop (tableWords (s .state .n)) b)
 
@@ -95,7 +95,7 @@ pub record Savable (x : Machine) : Type 0 where
 abbrev pub ImageLength : Type 0
 ImageLength = (kind : Kind) (x : Machine) → Row kind → Savable x → length (image kind (stateOf x)) ≡ backOf kind (x .state)
 
--- Claim: behind any preface p with which the file is not too long, it is read as p and its state, as far as its kind has it
+-- Claim: after any preface p with which the file is not too long, it is read as p and its state, as far as its kind has it
 abbrev pub ImageLoads : Type 0
 ImageLoads =
     (kind : Kind) (x : Machine) (p : List ℕ) → Row kind → Savable x → length p + backOf kind (x .state) ≤ maxFile
@@ -109,7 +109,7 @@ SaveAccepts =
     (x : Machine) (out : List ℕ) (a : ℕ) (out′ : List ℕ) → SavePromise x out a out′ → wrongSizes x ≡ false → backOf newest (x .state) ≤ length out
     → a ≡ 0
 
--- Claim: what an accepted save wrote is not too long, and behind any preface p with which the file is not, it is read as p and
+-- Claim: what an accepted save wrote is not too long, and after any preface p with which the file is not, it is read as p and
 -- the state that was saved
 abbrev pub SavedLoads : Type 0
 SavedLoads =

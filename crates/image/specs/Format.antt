@@ -117,7 +117,7 @@ further r = positionWords (r .position)
 abbrev pub moreWords : Kind → Record → List ℕ
 moreWords kind r = take (kind .more) (further r)
 
--- the words behind the registers, and all words
+-- the words after the registers, and all words
 abbrev pub tailWords : Kind → Record → List ℕ
 tailWords kind r = r .qifv ∷ r .qifw ∷ moreWords kind r
 

@@ -38,9 +38,9 @@ pub struct Loaded {
 fn load_refusal(t: Trailer, file: &[u8], mem: &[u32], table: &[u32]) -> u32
     ensures { λ r. ⌜ r ≡ loadRefusal t (now (file .entry)) (now (mem .entry)) (now (table .entry)) ⌝ }
 {
-    let refusal = file_refusal(t, file);
-    if refusal != 0 {
-        return refusal;
+    let of_file = file_refusal(t, file);
+    if of_file != 0 {
+        return of_file;
     }
     let r = t.state;
     if !is_enough(r.status(), mem, table) {
@@ -92,7 +92,7 @@ pub fn preface(file: &[u8]) -> &[u8]
 
 // ---- save
 
-// Writes the image of the M words mem and the 9 N words table at the front of out: the table right behind
+// Writes the image of the M words mem and the 9 N words table at the front of out: the table right after
 // the memory words, then the trailer.
 fn write_image(r: Record, mem: &[u32], table: &[u32], out: &mut [u8])
     requires { ⌜ (length (now mem) ≡ r .m) × (length (now table) ≡ tableWords (r .n)) × (backOf newest r ≤ length (now out)) × (backOf newest r < 2 ^ 32) ⌝ }

@@ -148,7 +148,7 @@ pub(crate) fn file_refusal(t: Trailer, file: &[u8]) -> u32
 
 // ---- writing
 
-// Writes the words behind the registers at the front of out.
+// Writes the words after the registers at the front of out.
 fn write_tail(r: Record, out: &mut [u8])
     requires { ⌜ 4 * length (tailWords newest r) ≤ length (now out) ⌝ }
     ensures { λ _. ⌜ now (out .exit) ≡ bytesOf (tailWords newest r) ++ drop (4 * length (tailWords newest r)) (now (out .entry)) ⌝ }
@@ -157,7 +157,7 @@ fn write_tail(r: Record, out: &mut [u8])
     write_words(&[r.qifv, r.qifw, low(bits), high(bits)], out);
 }
 
-// Writes the trailer's words at the front of out: each part into what is left of out behind the last.
+// Writes the trailer's words at the front of out: each part into what is left of out after the last.
 fn write_fields(r: Record, out: &mut [u8])
     requires { ⌜ (4 * wordCount newest ≤ length (now out)) × (backOf newest r < 2 ^ 32) ⌝ }
     ensures { λ _. ⌜ now (out .exit) ≡ bytesOf (trailerWords newest r) ++ drop (4 * length (trailerWords newest r)) (now (out .entry)) ⌝ }
@@ -168,7 +168,7 @@ fn write_fields(r: Record, out: &mut [u8])
     write_tail(r, &mut out[4 * QIFV..]);
 }
 
-// And the last bytes behind them.
+// And the last bytes after them.
 pub(crate) fn write_trailer(r: Record, out: &mut [u8])
     requires { ⌜ (trailerLength newest ≤ length (now out)) × (backOf newest r < 2 ^ 32) ⌝ }
     ensures { λ _. ⌜ now (out .exit) ≡ trailerBytes newest r ++ drop (trailerLength newest) (now (out .entry)) ⌝ }

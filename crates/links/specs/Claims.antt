@@ -118,7 +118,7 @@ Pairing =
     ∷ []
 
 -- Claim: nor does a link return that leads to node 2, whose words all lead elsewhere, or to node 3, which is above N, though words
--- follow behind the table that would all lead back
+-- follow after the table that would all lead back
 pub record Astray : Type 0 where
   pub elsewhere : map (λ (j : ℕ). onFirst (only j 2 ++ replicate nodeWords 2)) indices ≡ 8 ∷ 8 ∷ 8 ∷ 8 ∷ 8 ∷ 8 ∷ 8 ∷ 8 ∷ 0 ∷ []
   pub above : map (λ (j : ℕ). onFirst (only j 3 ++ replicate nodeWords 0 ++ replicate nodeWords 1)) indices

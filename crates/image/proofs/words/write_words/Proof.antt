@@ -1,4 +1,4 @@
--- The invariant: the words before i are written, and the bytes behind them as they were.
+-- The invariant: the words before i are written, and the bytes after them as they were.
 use mathlib.Core.Path.{_≡_, refl, _∙_}
 use mathlib.Core.List.{_++_}
 use Prim.Native.Nat.{_-_, _*_, _≤_}
