@@ -5,7 +5,7 @@ use mathlib.Core.List.{List}
 use Prim.Native.Nat.{ℕ, _^_, _<_, _≤_}
 use native.Mathlib.Omega.{arith}
 use lib.Dec.{eqb, leb}
-use lib.ListN.{length, getD, set, length-set}
+use lib.ListN.{length, getD, length-set}
 use lib.Seq.{getD-set-same, getD-set-other}
 use borrow.Author.Tests.{ltb-true, leb-true, eqb-true}
 use Rattle.word.specs.Word.{pick}
@@ -16,13 +16,13 @@ use Rattle.step.specs.declared.Status.{Status}
 use Rattle.step.specs.declared.Direction.{Direction}
 use Rattle.step.specs.declared.Direction.the-variants.{Forward, Back}
 use Rattle.step.specs.declared.Effect.{Effect}
-use Rattle.step.specs.declared.Effect.the-variants.{Nothing, Write, WriteTwo, SwapWord, SetNode}
 use Rattle.step.specs.declared.Attempt.{Attempt}
 use Rattle.step.specs.declared.Attempt.the-variants.{Refused, Does}
 use Rattle.step.specs.View.{View, Bounds, reg, flip}
 use Rattle.word.specs.Refusal.{refuse}
 use Rattle.step.specs.Step.{shifted, marked, written, performed, isReady, attempt}
 use Rattle.step.proofs.Sized.{SameSizes, marked-sizes, written-long, stored-long}
+use Rattle.step.proofs.Kept.{Kept, performed-kept}
 use Rattle.step.proofs.Undo.{Fair, Undone, undone, refused-no, inside, passed, set-back, words-set, shifted-word, shifted-back}
 use Rattle.step.specs.Sizes.{inRange, badSizes}
 use Rattle.machine.specs.Turn.{pc, br, atPc, stride, movedPc, fromPc, toPc, from, newPc, to, isCode, starts, finishes, landed, judged, executed, planned, turned}
@@ -92,35 +92,6 @@ module _ (s : View) (g : Bounds s) where
   to-from d =
       home-at (fromPc d (s .at .qifw) (pc s) (br s)) (toPc (flip d) (s .at .qifw))
       (to-from-pc d (s .at .qifw) (pc s) (br s) (g .regs 0) (g .regs 1))
-
--- ---- what an effect keeps
-
-record Kept (s s′ : View) : Type 0 where
-  pc : reg s′ 0 ≡ reg s 0
-  code : (j : ℕ) → j < s .at .k → getD (s′ .memory) j 0 ≡ getD (s .memory) j 0
-  bounds : Bounds s′
-
-put-bounds : (s : View) (a v : ℕ) → v < 2 ^ 32 → Bounds s → Bounds (record { at = s .at; regs = set (s .regs) a v; memory = s .memory })
-put-bounds s a v h g = record { sixteen = length-set (s .regs) a v ∙ g .sixteen; regs = words-set (s .regs) a v h (g .regs); words = g .words }
-
-kept : (e : Effect) (s : View) → Fair e (s .at) → Bounds s → Kept s (performed e s)
-kept Nothing s f g = record { pc = refl; code = λ j h. refl; bounds = g }
-kept (Write a v) s f g =
-    record { pc = getD-set-other (s .regs) a 0 v 0 (omega (arith, f .0)); code = λ j h. refl; bounds = put-bounds s a v (f .1) g }
-kept (WriteTwo a v b x) s f g =
-    record {
-      pc = getD-set-other (set (s .regs) a v) b 0 x 0 (omega (arith, f .2)) ∙ getD-set-other (s .regs) a 0 v 0 (omega (arith, f .0));
-      code = λ j h. refl;
-      bounds = put-bounds (record { at = s .at; regs = set (s .regs) a v; memory = s .memory }) b x (f .3) (put-bounds s a v (f .1) g);
-    }
-kept (SwapWord a i) s f g =
-    let q = put-bounds s a (getD (s .memory) i 0) (g .words i) g in
-    record {
-      pc = getD-set-other (s .regs) a 0 (getD (s .memory) i 0) 0 (omega (arith, f .0));
-      code = λ j h. getD-set-other (s .memory) i j (reg s a) 0 (omega (arith, f .1));
-      bounds = record { sixteen = q .sixteen; regs = q .regs; words = words-set (s .memory) i (reg s a) (g .regs a) (g .words) };
-    }
-kept (SetNode u j) s f g = record { pc = refl; code = λ j h. refl; bounds = record { sixteen = g .sixteen; regs = g .regs; words = g .words } }
 
 -- ---- the tests of a turn, both ways
 
@@ -245,7 +216,7 @@ module _ (t : List ℕ) (d : Direction) (s : View) (g : Bounds s) (e : Effect) (
       (decode-formed (getD (s .memory) (pc before) 0)) (a .does)
 
   keeps : Kept before after
-  keeps = kept e before (back .fair) (bounds-from s g d)
+  keeps = performed-kept e before (back .fair) (bounds-from s g d)
 
   in-code : pc before < s .at .k
   in-code = ltb-true _ _ (not-not _ (a .code))

@@ -17,7 +17,7 @@ use Rattle.step.specs.declared.Status.{Status}
 use Rattle.step.specs.Table.{tableWords}
 use Rattle.word.specs.Refusal.{refuse}
 use Rattle.step.specs.Sizes.{inRange, badSizes}
-use Rattle.step.specs.View.{View}
+use Rattle.step.specs.View.{View, placed}
 use Rattle.machine.specs.Turn.{pc, landed, judged, executed, planned}
 use Rattle.machine.specs.declared.Record.{Record}
 use Rattle.machine.specs.Machine.{Machine, machineOf, stateOf, viewOf, wrongSizes}
@@ -26,7 +26,7 @@ use Rattle.maker.specs.declared.Made.{Made}
 use Rattle.maker.specs.Walk.{Walk, size, cycles, ending, drawn}
 use Rattle.maker.specs.Making.{Outcome, branchAt}
 use Rattle.maker.specs.Making.Outcome.{refused, ended}
-use Rattle.maker.specs.Idle.{idleOp, placed, machine}
+use Rattle.maker.specs.Idle.{idleOp, machine}
 use Rattle.maker.specs.Follow.{idled, plannedIdle, walker, follows}
 use Rattle.maker.specs.Follow.Went.{went}
 use Rattle.maker.specs.Parts.{viewAt}
@@ -121,8 +121,7 @@ module _ (x : Machine) (limit : ℕ) (p : Walk) (z : View) (e : outcomeOf x limi
 
   begins : viewOf (finished x p) ≡ placed (1 + size p) 1 0 s
   unfolding s
-  begins =
-      ap (λ (j : ℕ). record { at = record { qifv = 1; qifw = j; k = r .k; m = r .m; n = 1 + size p }; regs = r .regs; memory = stateOf x .words }) wait
+  begins = ap (λ (j : ℕ). placed (1 + size p) 1 j s) wait
 
   last : View
   last = placed (1 + size p) (ending p 1 1) 0 z

@@ -1,18 +1,15 @@
 -- Words copied, exchanged and compared. Assumes nothing.
 use mathlib.Core.Path.{_≡_, refl, sym, ap, ap₂, _∙_, subst}
-use mathlib.Core.Bool.{Bool, true, false, _&&_, false≢true}
-use mathlib.Core.List.{List, [], _∷_}
+use mathlib.Core.Bool.{Bool, true, false, _&&_}
+use mathlib.Core.List.{List}
 use Prim.Native.Nat.{ℕ, _+_, _-_, _<_, _≤_}
 use borrow.Rule.Slice.PartMut.{putMid, take-put}
 use native.Mathlib.Omega.{arith}
 use native.Mathlib.Decide.{ℕ-discrete}
-use borrow.Author.Tests.{eq-eqb, eqb-true}
-use lib.Dec.{eqb}
 use lib.ListN.{length, length-set, getD, set, take, List·getD-eq-default}
-use lib.ListN.{getD, set, take, length-set}
 use lib.Seq.{take-length, length-take-le, getD-set-same, getD-set-other, getD-take, ext-getD}
-use Rattle.word.proofs.Words.{and-true}
-use Rattle.maker.specs.Idle.{sameWords}
+use Rattle.word.specs.Lists.{same}
+use Rattle.word.proofs.Lists.{same-self, same-unequal}
 use Rattle.step.specs.declared.Direction.the-variants.{Forward}
 use Rattle.step.specs.Step.{shifted}
 use Rattle.machine.specs.Turn.{stride}
@@ -92,26 +89,6 @@ exchanged-all a₀ b₀ a b i h k c = (
 
 -- ---- compared
 
-pub same-self : (l : List ℕ) → sameWords l l ≡ true
-unfolding sameWords
-same-self [] = refl
-same-self (x ∷ l) = rw (eq-eqb x x refl, same-self l)
-
-pub same-is : (k l : List ℕ) → sameWords k l ≡ true → k ≡ l
-unfolding sameWords
-same-is [] [] h = refl
-same-is [] (y ∷ l) h = absurd (false≢true h)
-same-is (x ∷ k) [] h = absurd (false≢true h)
-same-is (x ∷ k) (y ∷ l) h =
-    let q = and-true (eqb x y) (sameWords k l) h in ap₂ {C = List ℕ} (λ (a : ℕ) (b : List ℕ). a ∷ b) (eqb-true x y (q .0)) (same-is k l (q .1))
-
-pub differ : (k l : List ℕ) → ¬ (k ≡ l) → sameWords k l ≡ false
-differ k l h = go (sameWords k l) refl
-  where
-    go : (b : Bool) → sameWords k l ≡ b → b ≡ false
-    go true e = absurd (h (same-is k l e))
-    go false e = refl
-
 -- the first i words of b are those of a
 pub record Alike (a b : List ℕ) (i : ℕ) : Type 0 where
   pub words : (j : ℕ) → j < i → getD b j 0 ≡ getD a j 0
@@ -126,11 +103,11 @@ alike-more a b i e c = record { words = λ j h. go j h (ℕ-discrete i j) }
     go j h (yes q) = sym (subst (λ (x : ℕ). getD a x 0 ≡ getD b x 0) q e)
     go j h (no q) = c .words j (omega (arith, h, q))
 
-pub alike-not : (a b : List ℕ) (i : ℕ) → length a ≤ length b → i < length a → ¬ (getD a i 0 ≡ getD b i 0) → false ≡ sameWords (take (length a) b) a
-alike-not a b i h k n = sym (differ (take (length a) b) a (λ e. n (sym (ap (λ (l : List ℕ). getD l i 0) e) ∙ getD-take (length a) b i 0 k)))
+pub alike-not : (a b : List ℕ) (i : ℕ) → length a ≤ length b → i < length a → ¬ (getD a i 0 ≡ getD b i 0) → false ≡ same (take (length a) b) a
+alike-not a b i h k n = sym (same-unequal (take (length a) b) a (λ e. n (sym (ap (λ (l : List ℕ). getD l i 0) e) ∙ getD-take (length a) b i 0 k)))
 
-pub alike-all : (a b : List ℕ) (i : ℕ) → length a ≤ length b → length a ≤ i → Alike a b i → true ≡ sameWords (take (length a) b) a
-alike-all a b i h k c = sym (ap (λ (l : List ℕ). sameWords l a) (front a b h (λ j r. c .words j (omega (arith, r, k)))) ∙ same-self a)
+pub alike-all : (a b : List ℕ) (i : ℕ) → length a ≤ length b → length a ≤ i → Alike a b i → true ≡ same (take (length a) b) a
+alike-all a b i h k c = sym (ap (λ (l : List ℕ). same l a) (front a b h (λ j r. c .words j (omega (arith, r, k)))) ∙ same-self a)
 
 -- ---- the memory in the front of the scratch, while the part behind it is lent on
 
@@ -142,17 +119,17 @@ put-back m₀ m₁ s₁ ys m₂ h e q p =
 
 -- what the comparison told: s holds m₁ in its first k words, and the part behind was lent on since
 pub told-same : (k : ℕ) (m₁ s ys m₃ : List ℕ) (b : Bool) → k ≤ length s → length m₁ ≡ k → length m₃ ≡ k → take (length m₁) s ≡ m₁
-    → b ≡ sameWords (take (length m₃) (putMid k (length s - k) s ys)) m₃ → b ≡ sameWords m₁ m₃
+    → b ≡ same (take (length m₃) (putMid k (length s - k) s ys)) m₃ → b ≡ same m₁ m₃
 told-same k m₁ s ys m₃ b h p q e r =
     r
-    ∙ ap (λ (l : List ℕ). sameWords l m₃)
+    ∙ ap (λ (l : List ℕ). same l m₃)
     (ap (λ (j : ℕ). take j (putMid k (length s - k) s ys)) q ∙ (take-put k (length s - k) s ys h ∙ (ap (λ (j : ℕ). take j s) (sym p) ∙ e)))
 
 -- two comparisons: of x₁ with x₀, equally long, and of the memories
-pub told-both : (x₀ x₁ : List ℕ) (p q e r : Bool) → length x₀ ≡ length x₁ → p ≡ sameWords (take (length x₁) x₀) x₁ → q ≡ r → e ≡ (p && q)
-    → e ≡ (sameWords x₀ x₁ && r)
+pub told-both : (x₀ x₁ : List ℕ) (p q e r : Bool) → length x₀ ≡ length x₁ → p ≡ same (take (length x₁) x₀) x₁ → q ≡ r → e ≡ (p && q)
+    → e ≡ (same x₀ x₁ && r)
 told-both x₀ x₁ p q e r h i j k =
-    k ∙ ap₂ _&&_ (i ∙ ap (λ (l : List ℕ). sameWords l x₁) (ap (λ (n : ℕ). take n x₀) (sym h) ∙ take-length x₀)) j
+    k ∙ ap₂ _&&_ (i ∙ ap (λ (l : List ℕ). same l x₁) (ap (λ (n : ℕ). take n x₀) (sym h) ∙ take-length x₀)) j
 
 -- sixteen registers stay sixteen
 pub left-long : (l r : List ℕ) (a x : ℕ) → r ≡ left l a x → length l ≡ 16 → length r ≡ 16

@@ -4,16 +4,16 @@ use mathlib.Core.Bool.{Bool, true, false, _&&_}
 use mathlib.Core.List.{List, [], _∷_}
 use Prim.Native.Nat.{ℕ, zero, suc, _+_, _-_, _≤_}
 use lib.Dec.{eqb, leb}
-use lib.ListN.{getD, length-set}
 use borrow.Author.Tests.{eqb-true, leb-true}
 use Rattle.word.specs.Word.{pick}
 use Rattle.step.specs.declared.Direction.the-variants.{Forward}
 use Rattle.step.specs.declared.Effect.{Effect}
-use Rattle.step.specs.declared.Effect.the-variants.{Nothing, Write, WriteTwo, SwapWord, SetNode}
-use Rattle.step.specs.View.{View, reg, withReg}
+use Rattle.step.specs.View.{View, reg, withReg, placed}
 use Rattle.step.specs.Table.{fc, lc, cf, cl, nx, pr, w, link, paired}
 use Rattle.step.specs.Step.{performed}
 use Rattle.step.specs.Sizes.{inRange, badSizes}
+use Rattle.step.proofs.Sized.{marked-sizes, stored-long}
+use Rattle.machine.proofs.Inverse.{same-sizes}
 use Rattle.machine.specs.Turn.{pc, isCode, finishes, to}
 use Rattle.maker.specs.Walk.{Walk, size, cycles, ending}
 use Rattle.maker.specs.Walkable.{Look}
@@ -23,15 +23,14 @@ use Rattle.maker.specs.Making.Outcome.{ended}
 use Rattle.maker.proofs.Guided.{Guided, Next, guided, settled, enter, waits, leave, runs, byNext}
 use Rattle.maker.proofs.Guided.{cycle as guidedCycle}
 use Rattle.maker.proofs.Guided.Next.{stuck, moved}
-use Rattle.maker.specs.Idle.{placed, on, isBeforeStart, lookAt, coinAt, machine}
+use Rattle.maker.specs.Idle.{on, isBeforeStart, lookAt, coinAt, machine}
 use Rattle.maker.specs.Follow.{Saved, saved, Walker, Went, walker, cycle, follows, byWent}
 use Rattle.maker.specs.Follow.Went.{went}
 use Rattle.maker.proofs.Choices.{Holds}
 use Rattle.maker.proofs.Looked.{at-plain, last-is}
 use Rattle.maker.proofs.Lawful.{machine-lawful}
 use Rattle.maker.proofs.Same.{same-cycles, ends-last}
-use Rattle.maker.proofs.Effects.{NoNode}
-use Rattle.maker.proofs.Turns.{Sized, goes-plain, goes-on, qif-begins, qif-waits, fiq-ends}
+use Rattle.maker.proofs.Turns.{Sized, goes-on, qif-begins, qif-waits, fiq-ends}
 
 abbrev AllNext : Next View → (Guided View → Type 0) → Type 0
 AllNext (stuck k) P = Unit {0}
@@ -55,16 +54,14 @@ module _ (t : List ℕ) (N : ℕ) where
   embed g = walker (placed N (g .node) (g .wait) (g .at)) (coins (g .saved))
 
   -- sizes are kept
-  sized-effect : (s : View) (e : Effect) → NoNode e → Sized t N s → Sized t N (to Forward (performed e (placed 0 0 0 s)))
-  unfolding badSizes inRange
-  sized-effect s Nothing h z = z
-  sized-effect s (Write a v) h z = z
-  sized-effect s (WriteTwo a v b x) h z = z
-  sized-effect s (SwapWord a i) h z = rw (length-set (s .memory) i (getD (s .regs) a 0)) z
-  sized-effect s (SetNode u j) h z = absurd h
+  sized-effect : (s : View) (e : Effect) → Sized t N s → Sized t N (to Forward (performed e (placed 0 0 0 s)))
+  sized-effect s e z =
+      let z′ : View = to Forward (performed e (placed 0 0 0 s)) in
+      let k = marked-sizes e (placed 0 0 0 s .at) in
+      same-sizes t (placed N 0 0 s .at) (placed N 0 0 z′ .at) (s .memory) (z′ .memory) (record { k = k .k; m = k .m; n = refl }) (stored-long e (s .regs) (s .memory)) ∙ z
 
   sized-goes : (s y : View) → lookAt s ≡ goes y → Sized t N s → Sized t N y
-  sized-goes s y e z = let q = at-plain s y e in subst (Sized t N) (q .next) (sized-effect s (q .e) (goes-plain s y e) z)
+  sized-goes s y e z = let q = at-plain s y e in subst (Sized t N) (q .next) (sized-effect s (q .e) z)
 
   sized-settled : (j : ℕ) (s : View) → Sized t N s → Sized t N (settled machine t N j s)
   unfolding badSizes inRange

@@ -7,19 +7,21 @@ use native.Mathlib.Omega.{arith}
 use native.Mathlib.Numerals.{sub-one}
 use lib.Dec.{ltb, leb}
 use lib.ListN.{getD}
-use borrow.Author.Tests.{leb-false, ltb-false, eq-eqb}
+use borrow.Author.Tests.{leb-false, ltb-false}
 use Rattle.word.specs.Word.{pick}
-use Rattle.step.specs.View.{View}
+use Rattle.word.specs.Lists.{same}
+use Rattle.word.proofs.Lists.{same-equal}
+use Rattle.step.specs.View.{View, sized}
+use Rattle.step.proofs.Same.{sameView-status}
 use Rattle.maker.proofs.Counts.{cycles-used, not-first, not-second}
 use Rattle.word.proofs.Words.{and-true}
 use Rattle.maker.specs.Walk.{Walk, size, used, cycles, ending, linked, drawn, forkSize, forkUsed, forkCycles, forkLinked, lack}
 use Rattle.maker.specs.Making.{Outcome, Forks, unless, byOutcome, qifRefusal, firstFiqRefusal, secondFiqRefusal, forkBy, forkAt, branchAt}
 use Rattle.maker.specs.Making.Outcome.{refused, ended}
 use Rattle.maker.specs.Making.Forks.{failed, forked}
-use Rattle.maker.specs.Idle.{machine, isBeforeStart, sameWords, sameView}
+use Rattle.maker.specs.Idle.{machine, isBeforeStart}
 use Rattle.maker.specs.Parts.{viewAt, coinIn, heldOf, entered, left, refusedBy, walkedAt, walkedOf, Shown, ShownFork, firstFiqRefusalOf, secondFiqRefusalOf}
 use Rattle.maker.specs.declared.Walked.{Walked}
-use Rattle.maker.proofs.Copies.{same-is}
 
 stops : (j k : ℕ) (rest : Forks View) → k ≡ j → ¬ (k ≡ 0) → unless j rest ≡ failed k
 unfolding unless
@@ -61,14 +63,6 @@ met-below k m limit a n u l z b e =
     let y = not-first (ltb 510 n) 22 rest (x .1) in
     let w = not-second (heldOf a 1 l z) 23 (pick b 0 24) (y .1) in
     (leb-false limit u (x .0), ltb-false 510 n (y .0), not-second b 23 0 (w .1) .0)
-
--- states that differ at most in registers and memory
-and-is : (a : Bool) → (a && true) ≡ a
-and-is true = refl
-and-is false = refl
-
-pub same-both : (k m : ℕ) (l z l′ z′ : List ℕ) → sameView (viewAt k m l z) (viewAt k m l′ z′) ≡ (sameWords l l′ && sameWords z z′)
-same-both k m l z l′ z′ = rw (eq-eqb k k refl, eq-eqb m m refl, and-is (sameWords z z′))
 
 module _ (k w limit nest : ℕ) (from : Walked) (m₀ t : List ℕ) where
   abbrev v : ℕ
@@ -230,15 +224,15 @@ module _ (k w limit nest : ℕ) (from : Walked) (m₀ t : List ℕ) where
 
           -- both: whether the registers after the fiq and the memories are the same
           module _ (b : Walked) (l₁ z₁ : List ℕ) (h : Came₁ b l₁ z₁) (old : ℕ) (was : old ≡ getD s c 0) (both : Bool)
-              (told : both ≡ (sameWords (left (a .regs) c old) (left (b .regs) c old) && sameWords z₀ z₁)) where
+              (told : both ≡ (same (left (a .regs) c old) (left (b .regs) c old) && same z₀ z₁)) where
             abbrev x₁ : View
             x₁ = viewAt k w (b .regs) z₁
 
             both-is : both ≡ machine .same (machine .after here x₀) (machine .after here x₁)
             both-is =
                 told
-                ∙ (ap (λ (y : ℕ). sameWords (left (a .regs) c y) (left (b .regs) c y) && sameWords z₀ z₁) was
-                ∙ sym (same-both k w (left (a .regs) c (getD s c 0)) z₀ (left (b .regs) c (getD s c 0)) z₁))
+                ∙ (ap (λ (y : ℕ). same (left (a .regs) c y) (left (b .regs) c y) && same z₀ z₁) was
+                ∙ sym (sameView-status (sized k w 0) (left (a .regs) c (getD s c 0)) z₀ (left (b .regs) c (getD s c 0)) z₁))
 
             met : (i : ℕ) → i ≡ secondFiqRefusalOf k w limit c (b .nodes) (b .used) (b .regs) z₁ both
                 → i ≡ secondFiqRefusal machine limit here (n + 2 + size (g .a) + size (h .b)) (u + 1 + used (g .a) + 1 + used (h .b)) x₀ x₁
@@ -259,7 +253,7 @@ module _ (k w limit nest : ℕ) (from : Walked) (m₀ t : List ℕ) where
 
             same-memory : secondFiqRefusalOf k w limit c (b .nodes) (b .used) (b .regs) z₁ both ≡ 0 → z₀ ≡ z₁
             same-memory i =
-                same-is z₀ z₁ (and-true (sameWords (left (a .regs) c old) (left (b .regs) c old)) (sameWords z₀ z₁)
+                same-equal z₀ z₁ (and-true (same (left (a .regs) c old) (left (b .regs) c old)) (same z₀ z₁)
                 (sym told ∙ met-below k w limit c (b .nodes) (b .used) (b .regs) z₁ both i .2) .1)
 
             -- both came to their fiq and meet: the answer x, with the table d; the memory is branch 1's, which is branch 0's

@@ -1,7 +1,6 @@
 -- What the walk relies on of the machine: setting a coin leaves the word at pc, and states that are the same are equal. Assumes nothing.
 use mathlib.Core.Path.{_≡_, ap, ap₂, _∙_}
-use mathlib.Core.Bool.{Bool, true, _&&_}
-use mathlib.Core.List.{List}
+use mathlib.Core.Bool.{true, _&&_}
 use Prim.Native.Nat.{ℕ, _<_}
 use native.Mathlib.Omega.{arith}
 use lib.Dec.{eqb, ltb}
@@ -10,13 +9,12 @@ use lib.Seq.{getD-set-same, getD-set-other}
 use borrow.Author.Tests.{ltb-true, eqb-true}
 use Rattle.qins.specs.Op.{Op}
 use Rattle.step.specs.declared.Direction.the-variants.{Forward}
-use Rattle.step.specs.declared.Status.{Status}
 use Rattle.step.specs.View.{View, reg, withReg}
 use Rattle.step.specs.Step.{shifted}
 use Rattle.machine.specs.Turn.{pc, br, stride, isCode, starts, finishes}
-use Rattle.maker.specs.Idle.{idleOp, opAt, kindOf, coinOf, coinAt, isRegister, sameWords, sameStatus, sameView, machine}
+use Rattle.maker.specs.Idle.{idleOp, opAt, kindOf, coinOf, coinAt, isRegister, machine}
 use Rattle.word.proofs.Words.{and-true}
-use Rattle.maker.proofs.Copies.{same-is}
+use Rattle.step.proofs.Same.{sameView-equal}
 use Rattle.maker.proofs.Choices.{Lawful}
 use Rattle.maker.proofs.Looked.{AtQif, at-qif, is-qif}
 
@@ -52,35 +50,13 @@ module _ (s : View) (a x : ℕ) (h : isRegister s a ≡ true) where
         free = ap₂ (λ (i j : ℕ). starts (s .at) (s .memory) (shifted Forward i (stride j))) pc-stays br-stays ∙ q .free;
       }
 
--- ---- equal states
-
-status-is : (x y : Status) → sameStatus x y ≡ true → x ≡ y
-status-is x y e =
-    let p₃ : Bool = eqb (x .qifv) (y .qifv) && eqb (x .qifw) (y .qifw) in
-    let p₂ : Bool = eqb (x .n) (y .n) && p₃ in
-    let p₁ : Bool = eqb (x .m) (y .m) && p₂ in
-    let k = and-true (eqb (x .k) (y .k)) p₁ e in
-    let m = and-true (eqb (x .m) (y .m)) p₂ (k .1) in
-    let n = and-true (eqb (x .n) (y .n)) p₃ (m .1) in
-    let v = and-true (eqb (x .qifv) (y .qifv)) (eqb (x .qifw) (y .qifw)) (n .1) in
-    ap₂ (λ (i j : ℕ). record { qifv = i; qifw = j; k = x .k; m = x .m; n = x .n }) (eqb-true _ _ (v .0)) (eqb-true _ _ (v .1))
-    ∙ (ap₂ (λ (i j : ℕ). record { qifv = y .qifv; qifw = y .qifw; k = i; m = j; n = x .n }) (eqb-true _ _ (k .0)) (eqb-true _ _ (m .0))
-    ∙ ap (λ (i : ℕ). record { qifv = y .qifv; qifw = y .qifw; k = y .k; m = y .m; n = i }) (eqb-true _ _ (n .0)))
-
-views-are : (s z : View) → sameView s z ≡ true → s ≡ z
-views-are s z e =
-    let p = and-true (sameWords (s .regs) (z .regs)) (sameWords (s .memory) (z .memory) && sameStatus (s .at) (z .at)) e in
-    let q = and-true (sameWords (s .memory) (z .memory)) (sameStatus (s .at) (z .at)) (p .1) in
-    ap (λ (x : Status). record { at = x; regs = s .regs; memory = s .memory }) (status-is (s .at) (z .at) (q .1))
-    ∙ ap₂ (λ (x y : List ℕ). record { at = z .at; regs = x; memory = y }) (same-is (s .regs) (z .regs) (p .0)) (same-is (s .memory) (z .memory) (q .0))
-
 pub machine-lawful : Lawful machine
 machine-lawful =
     record {
       still = λ s x e. let q = at-qif s e in is-qif (withReg s (coinAt s) x) (qif-stays s (coinAt s) x (at-name s q) q);
       set = λ s x e. let q = at-qif s e in ap (λ (o : Op). reg (withReg s (coinAt s) x) (coinOf (kindOf o))) (op-stays s (coinAt s) x (at-name s q)) ∙ reads s (coinAt s) x (at-name s q);
       held = λ s t x h. eqb-true (reg t (coinAt t)) x (and-true (eqb (coinAt s) (coinAt t)) (eqb (reg t (coinAt t)) x) h .1);
-      alike = λ s t u h. views-are _ _ h;
+      alike = λ s t u h. sameView-equal _ _ h;
     }
   where
     at-name : (s : View) (q : AtQif s) → isRegister s (coinAt s) ≡ true

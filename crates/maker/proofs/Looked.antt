@@ -1,47 +1,24 @@
 -- What the look at a word says of it. Assumes nothing.
-use mathlib.Core.Path.{_≡_, refl, sym, subst}
+use mathlib.Core.Path.{_≡_, refl, subst}
 use mathlib.Core.Bool.{Bool, true, false}
 use mathlib.Core.List.{[]}
 use Prim.Native.Nat.{ℕ}
 use Rattle.word.specs.Word.{pick}
-use Rattle.qins.specs.Op.{Op}
-use Rattle.qins.specs.Op.Op.{None, Start, Finish, Xor, Add, Sub, Neg, Swap, SwapBits, Fetch, Exchange, Qif, Fiq}
+use Rattle.qins.specs.Op.Op.{Qif, Fiq}
 use Rattle.step.specs.declared.Attempt.{Attempt}
 use Rattle.step.specs.declared.Attempt.the-variants.{Refused, Does}
 use Rattle.step.specs.declared.Direction.the-variants.{Forward}
 use Rattle.step.specs.declared.Effect.{Effect}
-use Rattle.step.specs.View.{View}
+use Rattle.step.specs.View.{View, placed}
 use Rattle.step.specs.Step.{performed, attempt}
 use Rattle.machine.specs.Turn.{pc, isCode, finishes, landed, to}
 use Rattle.maker.specs.declared.Kind.{Kind}
 use Rattle.maker.specs.declared.Kind.the-variants.{Plain, Opens, Closes}
 use Rattle.maker.specs.Walkable.{Look}
 use Rattle.maker.specs.Walkable.Look.{halts, last, goes, forks, joins}
-use Rattle.maker.proofs.Effects.{IsPlain, Fine, plain-effect, landed-effect}
+use Rattle.maker.proofs.Effects.{kindOf-shape, Fine, plain-effect, landed-effect}
 use Rattle.maker.specs.Claims.{isOneOf, walkRefusals}
-use Rattle.maker.specs.Idle.{opAt, kindOf, placed, isBeforeStart, isRegister, ledTo, lookBy, lookAt}
-
--- ---- what a kind says of the operation
-
-abbrev pub Shape : Kind → Op → Type 0
-Shape Plain o = Unit {0}
-Shape (Opens a) o = o ≡ Qif a
-Shape (Closes a) o = o ≡ Fiq a
-
-pub shape : (o : Op) → Shape (kindOf o) o
-shape None = tt
-shape Start = tt
-shape Finish = tt
-shape (Xor a v) = tt
-shape (Add a v) = tt
-shape (Sub a v) = tt
-shape (Neg a) = tt
-shape (Swap a b) = tt
-shape (SwapBits a b) = tt
-shape (Fetch a b) = tt
-shape (Exchange a v) = tt
-shape (Qif a) = refl
-shape (Fiq a) = refl
+use Rattle.maker.specs.Idle.{opAt, kindOf, isBeforeStart, isRegister, ledTo, lookBy, lookAt}
 
 -- ---- a qif, a fiq, or a word that leads on to z by the effect e
 
@@ -61,7 +38,7 @@ pub record AtFiq (s : View) : Type 0 where
   pub runs : finishes (s .memory) (pc s) ≡ false
 
 pub record AtPlain (s z : View) : Type 0 where
-  pub plain : IsPlain (kindOf (opAt s))
+  pub plain : kindOf (opAt s) ≡ Plain
   pub e : Effect
   pub does : landed Forward (placed 0 0 0 s) (attempt [] Forward (opAt s) (placed 0 0 0 s)) ≡ Does e
   pub code : isCode (s .at) (pc s) ≡ true
@@ -76,7 +53,7 @@ Says s forks = AtQif s
 Says s joins = AtFiq s
 
 module _ (s : View) (code : isCode (s .at) (pc s) ≡ true) (runs : finishes (s .memory) (pc s) ≡ false) where
-  by-effect : IsPlain (kindOf (opAt s)) → (x : Attempt)
+  by-effect : kindOf (opAt s) ≡ Plain → (x : Attempt)
       → landed Forward (placed 0 0 0 s) (attempt [] Forward (opAt s) (placed 0 0 0 s)) ≡ x → Fine x → Says s (ledTo (placed 0 0 0 s) x)
   by-effect p (Refused n) d f = f
   by-effect p (Does e) d f = record { plain = p; e = e; does = d; code = code; runs = runs; next = refl }
@@ -91,11 +68,9 @@ module _ (s : View) (code : isCode (s .at) (pc s) ≡ true) (runs : finishes (s 
   by-fiq a q false h = refl
 
   by-kind : (k : Kind) → kindOf (opAt s) ≡ k → Says s (lookBy k (opAt s) (placed 0 0 0 s))
-  by-kind Plain q =
-      let p : IsPlain (kindOf (opAt s)) = subst IsPlain (sym q) tt in
-      by-effect p _ refl (landed-effect (placed 0 0 0 s) _ (plain-effect (opAt s) p s))
-  by-kind (Opens a) q = by-qif a (subst (λ (k : Kind). Shape k (opAt s)) q (shape (opAt s))) (isRegister s a) (isBeforeStart s) refl refl
-  by-kind (Closes a) q = by-fiq a (subst (λ (k : Kind). Shape k (opAt s)) q (shape (opAt s))) (isRegister s a) refl
+  by-kind Plain q = by-effect q _ refl (landed-effect (placed 0 0 0 s) _ (plain-effect (opAt s) q s))
+  by-kind (Opens a) q = by-qif a (kindOf-shape (opAt s) _ q) (isRegister s a) (isBeforeStart s) refl refl
+  by-kind (Closes a) q = by-fiq a (kindOf-shape (opAt s) _ q) (isRegister s a) refl
 
 by-tests : (s : View) (x y : Bool) → isCode (s .at) (pc s) ≡ x → finishes (s .memory) (pc s) ≡ y
     → Says s (pick x (pick y last (lookBy (kindOf (opAt s)) (opAt s) (placed 0 0 0 s))) (halts 11))

@@ -6,18 +6,19 @@ use Rattle.word.proofs.Words.{and-true}
 use Rattle.qins.specs.Decode.{extended, line, operation, decode}
 use Rattle.word.specs.Word.{addWord, subWord}
 use Rattle.word.specs.Refusal.{refuse}
+use Rattle.word.specs.Lists.{same}
+use Rattle.word.proofs.Lists.{same-equal}
 use Rattle.step.specs.Step.{value, attempt}
 use Rattle.step.specs.Sizes.{inRange, badSizes}
 use Rattle.machine.specs.Turn.{landed}
 use Rattle.maker.specs.Walk.{size, used, cycles, ending, put, pair, linked, drawn}
 use Rattle.maker.specs.Making.{byOutcome, unless, forkBy, walkBy, forkAt}
-use Rattle.maker.specs.Idle.{idleOp, lookAt, sameWords}
+use Rattle.maker.specs.Idle.{idleOp, lookAt}
 use Rattle.maker.specs.Make.{outcomeOf}
 use Rattle.maker.specs.Rows.{Row, observed, Hold, rows}
-use Rattle.maker.proofs.Copies.{same-is}
 
 abbrev shown : Row → Bool
-shown x = sameWords (observed x) (x .shows)
+shown x = same (observed x) (x .shows)
 
 abbrev test : List Row → Bool
 test [] = true
@@ -25,10 +26,10 @@ test (x ∷ rest) = shown x && test rest
 
 holds : (l : List Row) → test l ≡ true → Hold l
 holds [] h = tt
-holds (x ∷ rest) h = let p = and-true (shown x) (test rest) h in (same-is _ (x .shows) (p .0), holds rest (p .1))
+holds (x ∷ rest) h = let p = and-true (shown x) (test rest) h in (same-equal _ (x .shows) (p .0), holds rest (p .1))
 
 tested : test rows ≡ true
-unfolding addWord subWord inRange badSizes outcomeOf byOutcome unless forkBy walkBy forkAt lookAt idleOp sameWords decode operation line extended value refuse attempt landed size used cycles ending put pair linked drawn
+unfolding addWord subWord inRange badSizes outcomeOf byOutcome unless forkBy walkBy forkAt lookAt idleOp same decode operation line extended value refuse attempt landed size used cycles ending put pair linked drawn
 tested = refl
 
 pub rows-hold : Hold rows

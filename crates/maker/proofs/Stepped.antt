@@ -4,7 +4,6 @@ use mathlib.Core.Bool.{Bool, true, false, false≢true}
 use mathlib.Core.List.{List, [], _++_, append-nil}
 use Prim.Native.Nat.{ℕ, _<_, _≤_}
 use native.Mathlib.Omega.{arith}
-use lib.IntN.{pos}
 use lib.ListN.{length, getD, take, drop, drop-of-length-le}
 use lib.Seq.{take-length}
 use borrow.Author.Tests.{lt-ltb, le-ltb, le-leb, eq-eqb, ne-eqb}
@@ -14,17 +13,18 @@ use Rattle.qins.specs.Op.Op.{None, Start}
 use Rattle.qins.specs.Decode.{decode, finishWord, isInstruction}
 use Rattle.step.specs.declared.Direction.the-variants.{Forward}
 use Rattle.step.specs.declared.Effect.{Effect}
-use Rattle.step.specs.declared.Effect.the-variants.{Nothing, Write, WriteTwo, SwapWord, SetNode}
 use Rattle.step.specs.declared.Attempt.{Attempt}
 use Rattle.step.specs.declared.Attempt.the-variants.{Refused, Does}
-use Rattle.step.specs.View.{View}
+use Rattle.step.specs.declared.Status.{Status}
+use Rattle.step.specs.View.{View, sized}
 use Rattle.step.specs.Sizes.{inRange, badSizes}
 use Rattle.word.specs.Refusal.{refuse}
 use Rattle.step.specs.Step.{attempt, performed, number}
+use Rattle.step.proofs.Nodes.{KeepsNode}
 use Rattle.machine.specs.Turn.{pc, from, to, landed, judged, executed, planned, turned}
 use Rattle.machine.specs.declared.Record.{Record}
 use Rattle.machine.specs.declared.Turned.{Turned}
-use Rattle.machine.specs.Machine.{recordAt, Machine, machineOf}
+use Rattle.machine.specs.Machine.{newRecord, Machine, machineOf}
 use Rattle.machine.specs.Calls.{refusal, next, TurnPromise}
 use Rattle.maker.specs.declared.Kind.{Kind}
 use Rattle.maker.specs.declared.Kind.the-variants.{Plain, Opens, Closes}
@@ -33,9 +33,8 @@ use Rattle.maker.specs.Walkable.{Look}
 use Rattle.maker.specs.Walkable.Look.{halts, last, goes, forks, joins}
 use Rattle.maker.specs.Claims.{isOneOf, walkRefusals}
 use Rattle.maker.specs.Idle.{isGate, idleOp, kindOf, isBeforeStart, ledTo, plain, lookBy, lookAt}
-use Rattle.maker.specs.Parts.{statusAt, viewAt, movedOn, Simple, Looks, Sized}
-use Rattle.maker.proofs.Effects.{IsPlain, NoNode, Fine, plain-effect, landed-effect}
-use Rattle.maker.proofs.Looked.{Shape, shape}
+use Rattle.maker.specs.Parts.{viewAt, movedOn, Simple, Looks, Sized}
+use Rattle.maker.proofs.Effects.{kindOf-shape, Fine, plain-effect, landed-effect}
 use Rattle.maker.proofs.Turns.{from-is}
 use Rattle.maker.proofs.Registers.{qif-register, fiq-register}
 
@@ -68,11 +67,11 @@ none-halts s = refl
 
 -- ---- the machine's own turn
 
-good-sizes : (k m : ℕ) (z : List ℕ) → Sized k m (length z) → badSizes (statusAt k m) z [] ≡ false
+good-sizes : (k m : ℕ) (z : List ℕ) → Sized k m (length z) → badSizes (sized k m 0) z [] ≡ false
 unfolding badSizes inRange
 good-sizes k m z h = rw (lt-ltb 0 k (h .0), le-leb k m (h .1), le-leb m 8192 (h .2), le-leb m (length z) (omega (arith, h .3)))
 
-module _ (k m : ℕ) (l z : List ℕ) (sized : Sized k m (length z)) (simple : Simple l z k) where
+module _ (k m : ℕ) (l z : List ℕ) (fit : Sized k m (length z)) (simple : Simple l z k) where
   abbrev s : View
   s = viewAt k m l z
 
@@ -86,18 +85,13 @@ module _ (k m : ℕ) (l z : List ℕ) (sized : Sized k m (length z)) (simple : S
   unfolding judged refuse
   plan-is =
       ap (λ (y : View). judged [] Forward false (pc s) y (landed Forward y (executed [] Forward y))) (from-is s)
-      ∙ rw (good-sizes k m z sized, lt-ltb (getD l 0 0) k (simple .0), simple .1)
+      ∙ rw (good-sizes k m z fit, lt-ltb (getD l 0 0) k (simple .0), simple .1)
 
   -- the view after an effect that sets no node
-  made : (e : Effect) → NoNode e → (y : View) → y ≡ s → to Forward (performed e s) ≡ viewAt k m (to Forward (performed e y) .regs) (to Forward (performed e y) .memory)
-  made e h y q = kept e h ∙ ap (λ (y : View). viewAt k m (to Forward (performed e y) .regs) (to Forward (performed e y) .memory)) (sym q)
-    where
-      kept : (e : Effect) → NoNode e → to Forward (performed e s) ≡ viewAt k m (to Forward (performed e s) .regs) (to Forward (performed e s) .memory)
-      kept Nothing h = refl
-      kept (Write a v) h = refl
-      kept (WriteTwo a v b w) h = refl
-      kept (SwapWord a i) h = refl
-      kept (SetNode u j) h = absurd h
+  made : (e : Effect) → KeepsNode e → (y : View) → y ≡ s → to Forward (performed e s) ≡ viewAt k m (to Forward (performed e y) .regs) (to Forward (performed e y) .memory)
+  made e h y q =
+      ap (λ (at : Status). record { at = at; regs = to Forward (performed e s) .regs; memory = performed e s .memory }) (h (s .at))
+      ∙ ap (λ (y : View). viewAt k m (to Forward (performed e y) .regs) (to Forward (performed e y) .memory)) (sym q)
 
   pub record Turns (n : ℕ) (l′ z′ : List ℕ) : Type 0 where
     pub refused : ¬ (n ≡ 0) → plain o s ≡ halts n
@@ -106,7 +100,7 @@ module _ (k m : ℕ) (l z : List ℕ) (sized : Sized k m (length z)) (simple : S
   turn-is : (n : ℕ) (l′ z′ : List ℕ) → n ≡ number (planned [] Forward false s) → l′ ≡ turned Forward (planned [] Forward false s) s .regs
       → z′ ≡ turned Forward (planned [] Forward false s) s .memory → Turns n l′ z′
   turn-is n l′ z′ p q r =
-      go x refl (landed-effect s (attempt [] Forward o s) (plain-effect o (subst IsPlain (sym (simple .2)) tt) s)) (p ∙ ap number plan-is)
+      go x refl (landed-effect s (attempt [] Forward o s) (plain-effect o (simple .2) s)) (p ∙ ap number plan-is)
       (q ∙ ap (λ (y : Attempt). turned Forward y s .regs) plan-is) (r ∙ ap (λ (y : Attempt). turned Forward y s .memory) plan-is)
     where
       go : (y : Attempt) → x ≡ y → Fine y → n ≡ number x → l′ ≡ turned Forward x s .regs → z′ ≡ turned Forward x s .memory → Turns n l′ z′
@@ -129,17 +123,17 @@ module _ (k m : ℕ) (l z : List ℕ) (sized : Sized k m (length z)) (simple : S
       × (l′ ≡ turned Forward (planned [] Forward false (viewAt k m l y)) (viewAt k m l y) .regs)
       × (z′ ≡ turned Forward (planned [] Forward false (viewAt k m l y)) (viewAt k m l y) .memory ++ drop m z)
 
-  pub turns : (r : Record) (t : List ℕ) (a : Turned) (z′ : List ℕ) → r ≡ recordAt (statusAt k m) l (pos 0) → TurnPromise Forward (machineOf r z t) (a .refusal) (machineOf (a .state) z′ t)
+  pub turns : (r : Record) (t : List ℕ) (a : Turned) (z′ : List ℕ) → r ≡ newRecord (sized k m 0) l → TurnPromise Forward (machineOf r z t) (a .refusal) (machineOf (a .state) z′ t)
       → Turns (a .refusal) (a .state .regs) z′
   turns r t a z′ e f =
-      let r₀ : Record = recordAt (statusAt k m) l (pos 0) in
+      let r₀ : Record = newRecord (sized k m 0) l in
       let n : a .refusal ≡ refusal Forward (machineOf r₀ z t) = f .refusal ∙ ap (λ (r : Record). refusal Forward (machineOf r z t)) e in
       let p : machineOf (a .state) z′ t ≡ next Forward (machineOf r₀ z t) = f .left ∙ ap (λ (r : Record). next Forward (machineOf r z t)) e in
       let g : Told (take m z) (a .refusal) (a .state .regs) z′ = (n, ap (λ (y : Machine). y .state .regs) p, ap (λ (y : Machine). y .memory) p) in
-      let h : Told z (a .refusal) (a .state .regs) z′ = subst (λ (y : List ℕ). Told y (a .refusal) (a .state .regs) z′) (whole m z (sized .3)) g in
+      let h : Told z (a .refusal) (a .state .regs) z′ = subst (λ (y : List ℕ). Told y (a .refusal) (a .state .regs) z′) (whole m z (fit .3)) g in
       turn-is (a .refusal) (a .state .regs) z′ (h .0) (h .1)
       (h .2
-      ∙ (ap (λ (y : List ℕ). turned Forward (planned [] Forward false s) s .memory ++ y) (drop-of-length-le z {i = m} (omega (arith, sized .3)))
+      ∙ (ap (λ (y : List ℕ). turned Forward (planned [] Forward false s) s .memory ++ y) (drop-of-length-le z {i = m} (omega (arith, fit .3)))
       ∙ append-nil (turned Forward (planned [] Forward false s) s .memory)))
 
 -- ---- the look at a word
@@ -167,16 +161,13 @@ module _ (k m : ℕ) (l z : List ℕ) where
         rw (lt-ltb (getD l 0 0) k low, ne-eqb (getD z (getD l 0 0) 0) finishWord runs)
         (ap (λ (q : Kind). lookBy q (idleOp word) (viewAt k m l z)) e)
 
-    shaped : (q : Kind) → kindOf (idleOp word) ≡ q → Shape q (idleOp word)
-    shaped q e = subst (λ (k : Kind). Shape k (idleOp word)) e (shape (idleOp word))
-
     pub look-qif : (a : ℕ) → length l ≡ 16 → kindOf (idleOp word) ≡ Opens a → (b : Bool) → isBeforeStart (viewAt k m l z) ≡ b
         → lookAt (viewAt k m l z) ≡ pick b (halts 18) forks
     look-qif a h e b q =
-        by-kind (Opens a) e ∙ rw (qif-register (viewAt k m l z) word a h (shaped (Opens a) e), q)
+        by-kind (Opens a) e ∙ rw (qif-register (viewAt k m l z) word a h (kindOf-shape (idleOp word) (Opens a) e), q)
 
     pub look-fiq : (a : ℕ) → length l ≡ 16 → kindOf (idleOp word) ≡ Closes a → lookAt (viewAt k m l z) ≡ joins
-    look-fiq a h e = by-kind (Closes a) e ∙ rw (fiq-register (viewAt k m l z) word a h (shaped (Closes a) e))
+    look-fiq a h e = by-kind (Closes a) e ∙ rw (fiq-register (viewAt k m l z) word a h (kindOf-shape (idleOp word) (Closes a) e))
 
     pub look-plain : kindOf (idleOp word) ≡ Plain → lookAt (viewAt k m l z) ≡ plain (idleOp word) (viewAt k m l z)
     look-plain e = by-kind Plain e

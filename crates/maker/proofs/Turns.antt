@@ -5,29 +5,29 @@ use mathlib.Core.List.{List, [], _∷_}
 use Prim.Native.Nat.{ℕ, _-_, _≤_}
 use lib.Dec.{eqb}
 use lib.Seq.{set-getD}
-use borrow.Author.Tests.{le-ltb, le-leb}
 use Rattle.word.specs.Word.{pick}
 use Rattle.qins.specs.Op.{Op}
-use Rattle.qins.specs.Op.Op.{None, Start, Finish, Xor, Add, Sub, Neg, Swap, SwapBits, Fetch, Exchange, Qif, Fiq}
 use Rattle.step.specs.declared.Direction.the-variants.{Forward}
 use Rattle.step.specs.declared.Effect.{Effect}
-use Rattle.step.specs.declared.Effect.the-variants.{Nothing, Write, WriteTwo, SwapWord, SetNode}
+use Rattle.step.specs.declared.Effect.the-variants.{SetNode}
 use Rattle.step.specs.declared.Attempt.{Attempt}
 use Rattle.step.specs.declared.Attempt.the-variants.{Refused, Does}
-use Rattle.step.specs.View.{View, reg, withReg}
+use Rattle.step.specs.declared.Status.{Status}
+use Rattle.step.specs.View.{View, reg, withReg, placed}
 use Rattle.step.specs.Table.{fc, lc, cf, cl, nx, pr, w, link, paired}
 use Rattle.word.specs.Refusal.{refuse}
-use Rattle.step.specs.Step.{shifted, performed, attempt, qif, child, pass, fiq}
-use Rattle.step.specs.Step.{enter as entered}
+use Rattle.step.specs.Step.{shifted, performed, isReady, attempt}
+use Rattle.step.proofs.Nodes.{KeepsNode, attempt-placed, attempt-enters, attempt-waits, attempt-leaves}
 use Rattle.step.specs.Sizes.{inRange, badSizes}
-use Rattle.machine.specs.Turn.{pc, br, atPc, stride, isCode, starts, finishes, landed, judged, from, to}
+use Rattle.machine.specs.Turn.{pc, br, atPc, stride, isCode, starts, finishes, landed, judged, from, newPc, to}
 use Rattle.maker.specs.Walkable.Look.{goes, forks, joins}
 use Rattle.maker.proofs.Guided.{settled}
 use Rattle.maker.specs.declared.Kind.{Kind}
-use Rattle.maker.specs.Idle.{opAt, kindOf, coinOf, coinAt, placed, on, isBeforeStart, lookAt, machine}
+use Rattle.maker.specs.declared.Kind.the-variants.{Plain}
+use Rattle.maker.specs.Idle.{opAt, kindOf, coinOf, coinAt, on, isBeforeStart, lookAt, machine}
 use Rattle.maker.specs.Follow.{Saved, saved, idled, plannedIdle, Walker, walker, byTurn, turnThen, cycleBy, cycle}
 use Rattle.maker.specs.Follow.Went.{went}
-use Rattle.maker.proofs.Effects.{IsPlain, NoNode, Fine, plain-effect, landed-effect}
+use Rattle.maker.proofs.Effects.{kindOf-shape, Fine, plain-effect, landed-effect}
 use Rattle.maker.proofs.Looked.{at-qif, at-fiq, at-plain}
 use Rattle.maker.proofs.Lawful.{pc-stays, br-stays, reads, op-stays}
 
@@ -45,53 +45,30 @@ module _ (t : List ℕ) (s : View) (sized : badSizes (s .at) (s .memory) t ≡ f
   planned-is =
       ap (λ (z : View). judged t Forward false (pc s) z (landed Forward z (idled t z))) (from-is s) ∙ judged-is (pc s) (landed Forward s (idled t s))
 
-  -- the turn, where the word's own attempt isBeforeStart
+  -- the turn, where the word's own attempt lands
   turns : (e : Effect) (f : View → Walker) → landed Forward s (idled t s) ≡ Does e → turnThen t s f ≡ went (f (to Forward (performed e s)))
   turns e f h =
       ap (λ (x : Attempt). byTurn x s f) (planned-is ∙ h) ∙ ap (λ (z : View). went (f (to Forward (performed e z)))) (from-is s)
 
 -- ---- a word that leads on
 
-plain-cycle : (t : List ℕ) (x : ℕ) (k : Kind) → IsPlain k → (s : View) (l : List Saved) → cycleBy t x k s l ≡ turnThen t s (λ z. walker z l)
-plain-cycle t x Kind.Plain p s l = refl
-plain-cycle t x (Kind.Opens a) p s l = absurd p
-plain-cycle t x (Kind.Closes a) p s l = absurd p
-
--- neither table nor node counts for it
-plain-attempt : (t : List ℕ) (N v : ℕ) (o : Op) → IsPlain (kindOf o) → (s : View) → attempt t Forward o (placed N v 0 s) ≡ attempt [] Forward o (placed 0 0 0 s)
-unfolding attempt
-plain-attempt t N v None p s = refl
-plain-attempt t N v Start p s = refl
-plain-attempt t N v Finish p s = refl
-plain-attempt t N v (Xor a x) p s = refl
-plain-attempt t N v (Add a x) p s = refl
-plain-attempt t N v (Sub a x) p s = refl
-plain-attempt t N v (Neg a) p s = refl
-plain-attempt t N v (Swap a b) p s = refl
-plain-attempt t N v (SwapBits a b) p s = refl
-plain-attempt t N v (Fetch a b) p s = refl
-plain-attempt t N v (Exchange a x) p s = refl
-plain-attempt t N v (Qif a) p s = absurd p
-plain-attempt t N v (Fiq a) p s = absurd p
-
--- placed at a node, an attempt without one isBeforeStart as it does there
+-- placed at a node, an attempt that leaves it lands as it does without one
 landed-placed : (N v : ℕ) (s : View) (x : Attempt) → Fine x → landed Forward (placed N v 0 s) x ≡ landed Forward (placed 0 0 0 s) x
 unfolding landed
 landed-placed N v s (Refused n) h = refl
-landed-placed N v s (Does Nothing) h = refl
-landed-placed N v s (Does (Write a x)) h = refl
-landed-placed N v s (Does (WriteTwo a x b y)) h = refl
-landed-placed N v s (Does (SwapWord a i)) h = refl
-landed-placed N v s (Does (SetNode u j)) h = absurd h
+landed-placed N v s (Does e) h = ap lands (h (placed N v 0 s .at)) ∙ sym (ap lands (h (placed 0 0 0 s .at)))
+  where
+    lands : Status → Attempt
+    lands at =
+        refuse (isReady at && starts (s .at) (s .memory) (newPc Forward (record { at = at; regs = performed e s .regs; memory = s .memory }))) (Refused 18) (Does e)
 
-to-placed : (N v : ℕ) (s : View) (e : Effect) → NoNode e → to Forward (performed e (placed N v 0 s)) ≡ placed N v 0 (to Forward (performed e (placed 0 0 0 s)))
-to-placed N v s Nothing h = refl
-to-placed N v s (Write a x) h = refl
-to-placed N v s (WriteTwo a x b y) h = refl
-to-placed N v s (SwapWord a i) h = refl
-to-placed N v s (SetNode u j) h = absurd h
+to-placed : (N v : ℕ) (s : View) (e : Effect) → KeepsNode e → to Forward (performed e (placed N v 0 s)) ≡ placed N v 0 (to Forward (performed e (placed 0 0 0 s)))
+to-placed N v s e h = ap moved (h (placed N v 0 s .at)) ∙ sym (ap (λ (at : Status). placed N v 0 (moved at)) (h (placed 0 0 0 s .at)))
+  where
+    moved : Status → View
+    moved at = to Forward (record { at = at; regs = performed e s .regs; memory = performed e s .memory })
 
-pub goes-plain : (s z : View) (e : lookAt s ≡ goes z) → NoNode (at-plain s z e .e)
+pub goes-plain : (s z : View) (e : lookAt s ≡ goes z) → KeepsNode (at-plain s z e .e)
 goes-plain s z e =
     let q = at-plain s z e in
     subst Fine (q .does) (landed-effect (placed 0 0 0 s) (attempt [] Forward (opAt s) (placed 0 0 0 s)) (plain-effect (opAt s) (q .plain) s))
@@ -104,10 +81,10 @@ module _ (t : List ℕ) (N : ℕ) where
   unfolding cycle badSizes inRange
   goes-on s z v x l sized e =
       let q = at-plain s z e in
-      let there : idled t (placed N v 0 s) ≡ attempt [] Forward (opAt s) (placed 0 0 0 s) = plain-attempt t N v (opAt s) (q .plain) s in
-      let isBeforeStart : landed Forward (placed N v 0 s) (idled t (placed N v 0 s)) ≡ Does (q .e) = ap (landed Forward (placed N v 0 s)) there ∙ (landed-placed N v s (attempt [] Forward (opAt s) (placed 0 0 0 s)) (plain-effect (opAt s) (q .plain) s) ∙ q .does) in
-      plain-cycle t x (kindOf (opAt s)) (q .plain) (placed N v 0 s) l
-      ∙ (turns t (placed N v 0 s) sized (q .code) (q .runs) (q .e) (λ y. walker y l) isBeforeStart
+      let there : idled t (placed N v 0 s) ≡ attempt [] Forward (opAt s) (placed 0 0 0 s) = attempt-placed t [] Forward N 0 v 0 0 s (opAt s) (kindOf-shape (opAt s) Plain (q .plain)) in
+      let lands : landed Forward (placed N v 0 s) (idled t (placed N v 0 s)) ≡ Does (q .e) = ap (landed Forward (placed N v 0 s)) there ∙ (landed-placed N v s (attempt [] Forward (opAt s) (placed 0 0 0 s)) (plain-effect (opAt s) (q .plain) s) ∙ q .does) in
+      ap (λ (k : Kind). cycleBy t x k (placed N v 0 s) l) (q .plain)
+      ∙ (turns t (placed N v 0 s) sized (q .code) (q .runs) (q .e) (λ y. walker y l) lands
       ∙ ap (λ (y : View). went (walker y l)) (to-placed N v s (q .e) (goes-plain s z e) ∙ ap (placed N v 0) (q .next)))
 
 -- ---- an effect that sets node and wait count
@@ -128,22 +105,6 @@ set-to t M N u j v i s = go (eqb j 0)
     go false = ap (λ (r : List ℕ). record { at = placed N u j s .at; regs = r; memory = s .memory }) (set-getD (s .regs) 0 0)
 
 module _ (t : List ℕ) (N : ℕ) where
-  enters : (s : View) (v a x : ℕ) → x ≤ 1 → reg s a ≡ x → paired t N v (fc x) (link t N v (fc x)) cf ≡ true
-      → attempt t Forward (Qif a) (placed N v 0 s) ≡ Does (SetNode (link t N v (fc x)) (link t N (link t N v (fc x)) w))
-  unfolding attempt qif entered refuse
-  enters s v a x b e p = rw (e, le-leb x 1 b, p)
-
-  waiting : (s : View) (v j a x : ℕ) → eqb j 0 ≡ false → x ≤ 1 → reg s a ≡ x → paired t N (link t N v cf) (fc x) v cf ≡ true → j ≤ link t N v w
-      → attempt t Forward (Qif a) (placed N v j s) ≡ Does (SetNode v (j - 1))
-  unfolding attempt qif child refuse
-  waiting s v j a x z b e p h = rw (e, le-leb x 1 b, z, p, le-ltb (link t N v w) j h)
-
-  leaves : (s : View) (v a x : ℕ) → x ≤ 1 → reg s a ≡ x
-      → (paired t N (link t N v cl) (lc x) v cl && paired t N (link t N v cl) nx (link t N (link t N v cl) nx) pr) ≡ true
-      → attempt t Forward (Fiq a) (placed N v 0 s) ≡ Does (SetNode (link t N (link t N v cl) nx) 0)
-  unfolding attempt fiq pass refuse
-  leaves s v a x b e p = rw (e, le-leb x 1 b, p)
-
   -- ---- the machine's cycle for each of the maker's
 
   pub qif-begins : (s : View) (v x : ℕ) (l : List Saved) → Sized t N s → x ≤ 1 → lookAt s ≡ forks → paired t N v (fc x) (link t N v (fc x)) cf ≡ true
@@ -154,7 +115,7 @@ module _ (t : List ℕ) (N : ℕ) where
       let q = at-qif s e in
       let u = link t N v (fc x) in
       let s′ : View = withReg s (q .a) x in
-      let does : idled t (placed N v 0 s′) ≡ Does (SetNode u (link t N u w)) = ap (λ (o : Op). attempt t Forward o (placed N v 0 s′)) (op-stays s (q .a) x (q .named) ∙ q .op) ∙ enters s′ v (q .a) x b (reads s (q .a) x (q .named)) p in
+      let does : idled t (placed N v 0 s′) ≡ Does (SetNode u (link t N u w)) = ap (λ (o : Op). attempt t Forward o (placed N v 0 s′)) (op-stays s (q .a) x (q .named) ∙ q .op) ∙ attempt-enters t N s′ v (q .a) x b (reads s (q .a) x (q .named)) p in
       let free : isBeforeStart (placed N v 0 s′) ≡ false = ap₂ (λ (i j : ℕ). starts (s .at) (s .memory) (shifted Forward i (stride j))) (pc-stays s (q .a) x (q .named)) (br-stays s (q .a) x (q .named)) ∙ q .free in
       let here : coinAt s ≡ q .a = ap (λ (o : Op). coinOf (kindOf o)) (q .op) in
       ap (λ (o : Op). cycleBy t x (kindOf o) (placed N v 0 s) l) (q .op)
@@ -170,7 +131,7 @@ module _ (t : List ℕ) (N : ℕ) where
   qif-waits s v j x l sized z b e p h =
       let q = at-qif s e in
       let here : coinAt s ≡ q .a = ap (λ (o : Op). coinOf (kindOf o)) (q .op) in
-      let does : idled t (placed N v j s) ≡ Does (SetNode v (j - 1)) = ap (λ (o : Op). attempt t Forward o (placed N v j s)) (q .op) ∙ waiting s v j (q .a) (reg s (coinAt s)) z b (ap (reg s) (sym here)) p h in
+      let does : idled t (placed N v j s) ≡ Does (SetNode v (j - 1)) = ap (λ (o : Op). attempt t Forward o (placed N v j s)) (q .op) ∙ attempt-waits t N s v j (q .a) (reg s (coinAt s)) z b (ap (reg s) (sym here)) p h in
       ap (λ (o : Op). cycleBy t x (kindOf o) (placed N v j s) l) (q .op)
       ∙ (ap (λ (y : Bool). pick y (turnThen t (withReg (placed N v j s) (q .a) x) (λ z. walker z (saved s (q .a) ∷ l))) (turnThen t (placed N v j s) (λ z. walker z l))) z
       ∙ (turns t (placed N v j s) sized (q .code) (q .runs) (SetNode v (j - 1)) (λ z. walker z l)
@@ -187,7 +148,7 @@ module _ (t : List ℕ) (N : ℕ) where
       let m = link t N (link t N v cl) nx in
       let back : View → Walker = λ z. walker (withReg z (coinAt s₀) (reg s₀ (coinAt s₀))) l in
       let here : coinAt s ≡ q .a = ap (λ (o : Op). coinOf (kindOf o)) (q .op) in
-      let does : idled t (placed N v 0 s) ≡ Does (SetNode m 0) = ap (λ (o : Op). attempt t Forward o (placed N v 0 s)) (q .op) ∙ leaves s v (q .a) (reg s (coinAt s)) b (ap (reg s) (sym here)) p in
+      let does : idled t (placed N v 0 s) ≡ Does (SetNode m 0) = ap (λ (o : Op). attempt t Forward o (placed N v 0 s)) (q .op) ∙ attempt-leaves t N s v (q .a) (reg s (coinAt s)) b (ap (reg s) (sym here)) p in
       ap (λ (o : Op). cycleBy t x (kindOf o) (placed N v 0 s) (saved s₀ (coinAt s₀) ∷ l)) (q .op)
       ∙ (turns t (placed N v 0 s) sized (q .code) (q .runs) (SetNode m 0) back
       (ap (λ (y : Attempt). landed Forward (placed N v 0 s) y) does ∙ set-lands (placed N v 0 s) m 0 free)

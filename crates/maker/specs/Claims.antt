@@ -12,7 +12,7 @@ use Rattle.step.specs.declared.Direction.the-variants.{Forward}
 use Rattle.step.specs.declared.Attempt.the-variants.{Refused}
 use Rattle.step.specs.Table.{tableWords}
 use Rattle.step.specs.Sizes.{badSizes}
-use Rattle.step.specs.View.{View}
+use Rattle.step.specs.View.{View, placed}
 use Rattle.step.specs.Step.{attempt}
 use Rattle.machine.specs.Turn.{pc}
 use Rattle.machine.specs.Position.{isLast}
@@ -22,7 +22,7 @@ use Rattle.links.specs.Check.{checkOf, checkNodeOf}
 use Rattle.maker.specs.Walk.{Walk, size, cycles, ending, drawn}
 use Rattle.maker.specs.Making.{branchAt}
 use Rattle.maker.specs.Making.Outcome.{ended}
-use Rattle.maker.specs.Idle.{isGate, placed, machine}
+use Rattle.maker.specs.Idle.{isGate, machine}
 use Rattle.maker.specs.Follow.{idled, plannedIdle, walker, follows}
 use Rattle.maker.specs.Follow.Went.{went}
 use Rattle.maker.specs.Make.{mostWords, MakePromise}

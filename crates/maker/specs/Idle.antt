@@ -1,18 +1,19 @@
 -- The machine as the maker walks it: uni and unib idle, node, wait count and position left aside (document 02, #107).
 use Prim.Native.Nat.{ℕ}
-use mathlib.Core.Bool.{Bool, true, false, _&&_, _||_}
-use mathlib.Core.List.{List, [], _∷_}
+use mathlib.Core.Bool.{Bool, _&&_, _||_}
+use mathlib.Core.List.{[]}
 use lib.Dec.{eqb, ltb}
 use lib.ListN.{length, getD}
 use Rattle.word.specs.Word.{pick}
 use Rattle.qins.specs.Op.{Op}
-use Rattle.qins.specs.Op.Op.{None, Start, Finish, Xor, Add, Sub, Neg, Swap, SwapBits, Fetch, Exchange, Qif, Fiq}
+use Rattle.qins.specs.Op.Op.{None, Start}
 use Rattle.qins.specs.Decode.{opcode, decode, isInstruction}
 use Rattle.step.specs.declared.Direction.the-variants.{Forward}
 use Rattle.step.specs.declared.Attempt.{Attempt}
 use Rattle.step.specs.declared.Attempt.the-variants.{Refused, Does}
-use Rattle.step.specs.declared.Status.{Status}
-use Rattle.step.specs.View.{View, reg, withReg}
+use Rattle.step.specs.View.{View, reg, withReg, placed}
+use Rattle.step.specs.Same.{sameView}
+use Rattle.step.specs.Nodes.{byNode}
 use Rattle.step.specs.Step.{shifted, performed, attempt}
 use Rattle.machine.specs.Turn.{pc, br, atPc, stride, isCode, starts, finishes, landed, to}
 use Rattle.maker.specs.declared.Kind.{Kind}
@@ -33,19 +34,7 @@ opAt s = idleOp (getD (s .memory) (pc s) 0)
 
 -- a qif, a fiq, each with the register of its coin, or any other word
 abbrev pub kindOf : Op → Kind
-kindOf None = Plain
-kindOf Start = Plain
-kindOf Finish = Plain
-kindOf (Xor a v) = Plain
-kindOf (Add a v) = Plain
-kindOf (Sub a v) = Plain
-kindOf (Neg a) = Plain
-kindOf (Swap a b) = Plain
-kindOf (SwapBits a b) = Plain
-kindOf (Fetch a b) = Plain
-kindOf (Exchange a v) = Plain
-kindOf (Qif a) = Opens a
-kindOf (Fiq a) = Closes a
+kindOf o = byNode o Opens Closes Plain
 
 abbrev pub coinOf : Kind → ℕ
 coinOf Plain = 0
@@ -56,11 +45,6 @@ abbrev pub coinAt : View → ℕ
 coinAt s = coinOf (kindOf (opAt s))
 
 -- ---- one word
-
--- the view at node v of n, with wait count j
-abbrev pub placed : ℕ → ℕ → ℕ → View → View
-placed n v j s =
-    record { at = record { qifv = v; qifw = j; k = s .at .k; m = s .at .m; n = n }; regs = s .regs; memory = s .memory }
 
 abbrev pub on : View → View
 on s = atPc s (shifted Forward (pc s) (stride (br s)))
@@ -73,7 +57,7 @@ abbrev pub ledTo : View → Attempt → Look View
 ledTo s (Refused n) = halts n
 ledTo s (Does e) = goes (to Forward (performed e s))
 
--- the machine's own attempt of a word that is no qif or fiq, without a table, with 18 behind it
+-- the machine's own attempt of a word that is no qif or fiq, without a table, with 18 after it
 abbrev pub plain : Op → View → Look View
 plain o s = ledTo s (landed Forward s (attempt [] Forward o s))
 
@@ -95,20 +79,7 @@ lookAt s =
 
 -- ---- all of it
 
-unfoldable pub sameWords : List ℕ → List ℕ → Bool
-sameWords [] [] = true
-sameWords [] (y ∷ l) = false
-sameWords (x ∷ k) [] = false
-sameWords (x ∷ k) (y ∷ l) = eqb x y && sameWords k l
-
-abbrev pub sameStatus : Status → Status → Bool
-sameStatus x y =
-    eqb (x .k) (y .k) && (eqb (x .m) (y .m) && (eqb (x .n) (y .n) && (eqb (x .qifv) (y .qifv) && eqb (x .qifw) (y .qifw))))
-
-abbrev pub sameView : View → View → Bool
-sameView s z = sameWords (s .regs) (z .regs) && (sameWords (s .memory) (z .memory) && sameStatus (s .at) (z .at))
-
--- two branches are compared behind their fiq, where pc has moved on by br and the coin register is restored: br is compared too, so
+-- two branches are compared after their fiq, where pc has moved on by br and the coin register is restored: br is compared too, so
 -- that they are the same there exactly where they differ at the fiq in nothing but that register
 abbrev pub machine : Walkable View
 machine =

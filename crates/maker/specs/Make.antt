@@ -8,10 +8,10 @@ use lib.ListN.{length, getD, drop, replicate}
 use Rattle.word.specs.Word.{pick}
 use Rattle.step.specs.Table.{tableWords}
 use Rattle.step.specs.Sizes.{maxNodes}
-use Rattle.step.specs.View.{View}
+use Rattle.step.specs.View.{View, withNode, withNodes}
 use Rattle.machine.specs.Turn.{starts}
 use Rattle.machine.specs.declared.Record.{Record}
-use Rattle.machine.specs.Machine.{statusOf, Machine, stateOf, wrongSizes}
+use Rattle.machine.specs.Machine.{statusOf, withStatus, Machine, stateOf, wrongSizes}
 use Rattle.maker.specs.declared.Made.{Made}
 use Rattle.maker.specs.Walk.{size, cycles, drawn}
 use Rattle.maker.specs.Making.{Outcome, branchAt}
@@ -57,7 +57,7 @@ madeAs n c r = record { refusal = n; cycles = c; state = r }
 
 -- r at node 1 of n
 abbrev pub withTable : Record → ℕ → Record
-withTable r n = record { regs = r .regs; qifv = 1; qifw = r .qifw; k = r .k; m = r .m; n = n; position = r .position }
+withTable r n = withStatus r (withNode (withNodes (statusOf r) n) 1 (r .qifw))
 
 abbrev pub answerOf : Record → Outcome View → Made
 answerOf r (refused i) = madeAs i 0 r

@@ -2,16 +2,16 @@
 use Prim.Native.Nat.{ℕ, zero, suc, _+_, _-_, _≤_, _<_}
 use mathlib.Core.Path.{_≡_}
 use mathlib.Core.Bool.{Bool, false, _&&_}
-use mathlib.Core.List.{List, [], _∷_}
+use mathlib.Core.List.{List}
 use lib.Dec.{eqb, ltb, leb}
 use lib.ListN.{getD, set}
 use Rattle.word.specs.Word.{pick}
 use Rattle.qins.specs.Decode.{decode}
 use Rattle.step.specs.declared.Direction.the-variants.{Forward}
-use Rattle.step.specs.declared.Status.{Status}
-use Rattle.step.specs.View.{View}
+use Rattle.step.specs.View.{View, sized}
 use Rattle.step.specs.Step.{shifted}
 use Rattle.machine.specs.Turn.{stride, finishes}
+use Rattle.machine.specs.Machine.{zeros}
 use Rattle.maker.specs.declared.Kind.the-variants.{Plain}
 use Rattle.maker.specs.declared.Seen.{Seen}
 use Rattle.maker.specs.declared.Seen.the-variants.{Halts, Last, Goes, Forks as AtFork, Joins}
@@ -26,11 +26,8 @@ use Rattle.maker.specs.Idle.{idleOp, kindOf, coinOf, isBeforeStart}
 
 -- ---- views without node and wait count
 
-abbrev pub statusAt : ℕ → ℕ → Status
-statusAt k m = record { qifv = 0; qifw = 0; k = k; m = m; n = 0 }
-
 abbrev pub viewAt : ℕ → ℕ → List ℕ → List ℕ → View
-viewAt k m regs mem = record { at = statusAt k m; regs = regs; memory = mem }
+viewAt k m regs mem = record { at = sized k m 0; regs = regs; memory = mem }
 
 -- pc moved on; register a set before that, or after it
 abbrev pub movedOn : List ℕ → List ℕ
@@ -70,11 +67,8 @@ Room (suc nest) m l = (m ≤ l) × Room nest m (l - m)
 
 -- ---- answers
 
-abbrev pub zeroRegs : List ℕ
-zeroRegs = 0 ∷ 0 ∷ 0 ∷ 0 ∷ 0 ∷ 0 ∷ 0 ∷ 0 ∷ 0 ∷ 0 ∷ 0 ∷ 0 ∷ 0 ∷ 0 ∷ 0 ∷ 0 ∷ []
-
 abbrev pub refusedBy : ℕ → Walked
-refusedBy k = record { refusal = k; regs = zeroRegs; used = 0; cycles = 0; nodes = 0; node = 0 }
+refusedBy k = record { refusal = k; regs = zeros .regs; used = 0; cycles = 0; nodes = 0; node = 0 }
 
 abbrev pub walkedAt : List ℕ → ℕ → ℕ → ℕ → ℕ → Walked
 walkedAt s u c n v = record { refusal = 0; regs = s; used = u; cycles = c; nodes = n; node = v }

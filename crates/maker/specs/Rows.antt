@@ -6,8 +6,9 @@ use mathlib.Core.List.{List, [], _∷_, _++_}
 use lib.IntN.{pos}
 use lib.ListN.{length, take, replicate}
 use Rattle.step.specs.Table.{tableWords}
+use Rattle.step.specs.View.{sized, withNode}
 use Rattle.machine.specs.declared.Record.{Record}
-use Rattle.machine.specs.Machine.{machineOf}
+use Rattle.machine.specs.Machine.{recordAt, machineOf}
 use Rattle.maker.specs.Make.{makeOf, tableAfter}
 
 -- the record and the memory, the limit, the words of table and scratch that are lent, all of them 9, and what the call shows
@@ -38,15 +39,7 @@ Hold (x ∷ rest) = (observed x ≡ x .shows) × Hold rest
 -- r1, r2 and r3; K and N; at node 5 and the largest position, which count for nothing; the memory
 abbrev pub at : ℕ → ℕ → ℕ → ℕ → ℕ → List ℕ → Record
 at a b c k n l =
-    record {
-      regs = 0 ∷ 0 ∷ 0 ∷ 0 ∷ a ∷ b ∷ c ∷ 0 ∷ 0 ∷ 0 ∷ 0 ∷ 0 ∷ 0 ∷ 0 ∷ 0 ∷ 0 ∷ [];
-      qifv = 5;
-      qifw = 0;
-      k = k;
-      m = length l;
-      n = n;
-      position = pos 9223372036854775807;
-    }
+    recordAt (withNode (sized k (length l) n) 5 0) (0 ∷ 0 ∷ 0 ∷ 0 ∷ a ∷ b ∷ c ∷ 0 ∷ 0 ∷ 0 ∷ 0 ∷ 0 ∷ 0 ∷ 0 ∷ 0 ∷ 0 ∷ []) (pos 9223372036854775807)
 
 -- a program without data words, with so many words of table and scratch as are enough
 abbrev pub row : ℕ → ℕ → List ℕ → ℕ → List ℕ → Row

@@ -2,7 +2,7 @@
 ghost use mathlib.Core.Path.{_≡_};
 ghost use Prim.Native.Nat.{_≤_};
 ghost use lib.ListN.{length, take, replicate};
-ghost use Rattle.maker.specs.Idle.{sameWords};
+ghost use Rattle.word.specs.Lists.{same};
 
 // The front of b becomes a.
 pub(crate) fn copy(a: &[u32], b: &mut [u32])
@@ -35,7 +35,7 @@ pub(crate) fn exchange(a: &mut [u32], b: &mut [u32])
 // a is the front of b.
 pub(crate) fn same_words(a: &[u32], b: &[u32]) -> bool
     requires { ⌜ length (now a) ≤ length (now b) ⌝ }
-    ensures { λ r. ⌜ r ≡ sameWords (take (length (now (a .entry))) (now (b .entry))) (now (a .entry)) ⌝ }
+    ensures { λ r. ⌜ r ≡ same (take (length (now (a .entry))) (now (b .entry))) (now (a .entry)) ⌝ }
 {
     let mut i = 0;
     while i < a.len() {

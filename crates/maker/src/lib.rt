@@ -137,16 +137,7 @@ fn walk_whole(
 fn at_node_one(r: Record, n: u32) -> Record
     ensures { λ a. ⌜ a ≡ withTable r n ⌝ }
 {
-    let regs = r.regs;
-    Record {
-        regs,
-        qifv: 1,
-        qifw: r.qifw,
-        k: r.k,
-        m: r.m,
-        n,
-        position: r.position,
-    }
+    r.with_status(r.status().with_nodes(n).with_node(1, r.qifw))
 }
 
 // Makes the table of the program in mem, in at most limit cycles walked.

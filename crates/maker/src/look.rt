@@ -3,16 +3,17 @@ ghost use mathlib.Core.Path.{_≡_};
 ghost use lib.ListN.{length, getD};
 ghost use Rattle.qins.specs.Decode.{decode};
 ghost use Rattle.qins.specs.Op.{Op};
-ghost use Rattle.machine.specs.Machine.{recordAt};
+ghost use Rattle.step.specs.View.{sized};
+ghost use Rattle.machine.specs.Machine.{newRecord};
 ghost use Rattle.maker.specs.declared.Kind.{Kind};
 ghost use Rattle.maker.specs.declared.Seen.{Seen};
 ghost use Rattle.maker.specs.Idle.{isGate, idleOp, kindOf, coinOf, isBeforeStart, plain, lookAt};
-ghost use Rattle.maker.specs.Parts.{statusAt, viewAt, movedOn, coinIn, Simple, Looks, Sized};
-ghost use lib.IntN.{pos};
+ghost use Rattle.maker.specs.Parts.{viewAt, movedOn, coinIn, Simple, Looks, Sized};
 use crate::Advanced;
 use crate::Kind;
 use crate::Seen;
 use machine::Record;
+use step::Status;
 use step::lent::look;
 use step::lent::put;
 use step::lent::word_at;
@@ -100,17 +101,9 @@ fn idle_turn(k: u32, m: u32, regs: [u32; 16], mem: &[u32]) -> Advanced
 
 // Without a node, without a table and away from the last position.
 fn record_of(k: u32, m: u32, regs: [u32; 16]) -> Record
-    ensures { λ r. ⌜ r ≡ recordAt (statusAt k m) regs (pos 0) ⌝ }
+    ensures { λ r. ⌜ r ≡ newRecord (sized k m 0) regs ⌝ }
 {
-    Record {
-        regs,
-        qifv: 0,
-        qifw: 0,
-        k,
-        m,
-        n: 0,
-        position: 0,
-    }
+    Record::new(Status::sized(k, m, 0), regs)
 }
 
 fn real_turn(k: u32, m: u32, regs: [u32; 16], mem: &mut [u32]) -> Advanced

@@ -4,9 +4,10 @@ ghost use mathlib.Core.Path.{_≡_};
 ghost use mathlib.Core.Bool.{_&&_};
 ghost use Prim.Native.Nat.{_+_, _-_, _≤_, _<_};
 ghost use lib.ListN.{length, take};
+ghost use Rattle.word.specs.Lists.{same};
 ghost use Rattle.maker.specs.Walk.{linked};
 ghost use Rattle.maker.specs.Making.{qifRefusal, branchAt, forkAt};
-ghost use Rattle.maker.specs.Idle.{machine, sameWords};
+ghost use Rattle.maker.specs.Idle.{machine};
 ghost use Rattle.maker.specs.Parts.{viewAt, entered, left, heldOf, Sized, Room, refusedBy, walkedAt, Shown, ShownFork, firstFiqRefusalOf, secondFiqRefusalOf};
 use crate::Seen;
 use crate::Walked;
@@ -112,15 +113,15 @@ fn first_fiq_refusal(k: u32, m: u32, limit: u32, a: usize, at: Walked, mem: &[u3
 fn agree(a: usize, old: u32, first: Walked, second: Walked, mem: &[u32], saved: &[u32]) -> bool
     requires { ⌜ length (now mem) ≤ length (now saved) ⌝ }
     ensures { λ r.
-        ⌜ r ≡ (sameWords (left (first .regs) a old) (left (second .regs) a old)
-        && sameWords (take (length (now (mem .entry))) (now (saved .entry))) (now (mem .entry))) ⌝ }
+        ⌜ r ≡ (same (left (first .regs) a old) (left (second .regs) a old)
+        && same (take (length (now (mem .entry))) (now (saved .entry))) (now (mem .entry))) ⌝ }
 {
     let x = leave(first, a, old);
     let y = leave(second, a, old);
     word::both(same_words(&y, &x), same_words(mem, saved))
 }
 
-// At the fiq of branch 1; same is what agree tells.
+// At the fiq of branch 1; agreed is what agree tells.
 fn second_fiq_refusal(
     k: u32,
     m: u32,
@@ -128,10 +129,10 @@ fn second_fiq_refusal(
     a: usize,
     at: Walked,
     mem: &[u32],
-    same: bool,
+    agreed: bool,
 ) -> u32
     requires { ⌜ length (now mem) ≡ m ⌝ }
-    ensures { λ r. ⌜ r ≡ secondFiqRefusalOf k m limit a (at .nodes) (at .used) (at .regs) (now (mem .entry)) same ⌝ }
+    ensures { λ r. ⌜ r ≡ secondFiqRefusalOf k m limit a (at .nodes) (at .used) (at .regs) (now (mem .entry)) agreed ⌝ }
 {
     let regs = at.regs;
     if is_before_start(k, m, &regs, mem) {
@@ -144,7 +145,7 @@ fn second_fiq_refusal(
         return 23;
     }
     if holds(m, a, 1, at, mem) {
-        if same {
+        if agreed {
             return 0;
         }
     }
@@ -312,8 +313,8 @@ pub(crate) fn fork(
     if b.refusal != 0 {
         return b;
     }
-    let same = agree(c, old, a, b, mem, scratch);
-    let met = second_fiq_refusal(k, m, limit, c, b, mem, same);
+    let agreed = agree(c, old, a, b, mem, scratch);
+    let met = second_fiq_refusal(k, m, limit, c, b, mem, agreed);
     if met != 0 {
         return refuse(met);
     }

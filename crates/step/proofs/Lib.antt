@@ -1,8 +1,11 @@
 pub mod Views
 pub mod Sized
+pub mod Same
 pub mod Known
 pub mod Numbers
 pub mod Addresses
 pub mod Results
 pub mod Undo
+pub mod Kept
+pub mod Nodes
 pub mod Stores

@@ -11,7 +11,8 @@ use borrow.Author.Needs.{needs}
 use Rattle.maker.specs.declared.Walked.{Walked}
 use Rattle.maker.specs.Parts.{Room, walkedAt, coinIn, entered, left, firstFiqRefusalOf, secondFiqRefusalOf}
 use Rattle.maker.specs.Making.{qifRefusal}
-use Rattle.maker.specs.Idle.{sameWords, machine}
+use Rattle.maker.specs.Idle.{machine}
+use Rattle.word.specs.Lists.{same}
 use Rattle.maker.proofs.Copies.{put-back, told-same}
 use Rattle.maker.proofs.Rooms.{fits, as-long, deeper, sized}
 use Rattle.maker.proofs.Forking.{First, Then, Came₀, Came₁, none, shut, refused₀, came₀, shut₀, refused₁, came₁, shut₁, done, short, opened, shut-below, met-below}
@@ -298,8 +299,8 @@ told : (t : ℕ) (c : fork-lts.After-agree (fork-said t) (fork-at t) fork.Post) 
     let look′ = (copy-of t branch′) .before .before .before in
     let start′ = begin-of t (look′ .before .before .before .before .before .before .before .before) in
     let g = start′ .args in
-    c .agree .result ≡ (sameWords (left (branch′ .branch .result .regs) (coinIn (g .from .regs) (now (g .mem))) (look′ .look .result))
-    (left (branch2′ .branch2 .result .regs) (coinIn (g .from .regs) (now (g .mem))) (look′ .look .result)) && sameWords
+    c .agree .result ≡ (same (left (branch′ .branch .result .regs) (coinIn (g .from .regs) (now (g .mem))) (look′ .look .result))
+    (left (branch2′ .branch2 .result .regs) (coinIn (g .from .regs) (now (g .mem))) (look′ .look .result)) && same
     (branch′ .branch .last .1 .1 .1 .1 .1 .1 .0) (branch2′ .branch2 .last .1 .1 .1 .1 .1 .1 .0))
 told t c =
     let branch2′ = branch2-of t (c .before .before .before .before) in
@@ -311,7 +312,7 @@ told t c =
     let coin-at′ = look′ .before .before in
     let if1′ = coin-at′ .before .before .before .before .before .before in
     let start′ = begin-of t if1′ in
-    c .agree .ensures ∙ ap₂ (λ (i : ℕ) (x : Bool). sameWords (left (branch′ .branch .result .regs) i (look′ .look .result))
+    c .agree .ensures ∙ ap₂ (λ (i : ℕ) (x : Bool). same (left (branch′ .branch .result .regs) i (look′ .look .result))
     (left (branch2′ .branch2 .result .regs) i (look′ .look .result)) && x) (coin-at′ .coin-at .ensures) (told-same (length (now (start′ .args .mem)))
     (branch′ .branch .last .1 .1 .1 .1 .1 .1 .0) (exchange′ .exchange .last .1 .0) (branch2′ .branch2 .last .1 .1 .1 .1 .1 .1 .1 .0)
     (branch2′ .branch2 .last .1 .1 .1 .1 .1 .1 .0) _

@@ -4,7 +4,7 @@ use mathlib.Core.List.{List}
 use Prim.Native.Nat.{ℕ}
 use lib.ListN.{length, take}
 use denote.Ref.{now}
-use Rattle.maker.specs.Idle.{sameWords}
+use Rattle.word.specs.Lists.{same}
 use Rattle.maker.proofs.Copies.{told-both}
 use borrow.Author.Needs.{needs}
 use Rattle.maker.proofs.walk.agree.Statement.{statement}
@@ -21,4 +21,4 @@ agree-spec =
     (λ c κs. search needs)
     (λ c κs. search needs)
     (λ c κs. search needs)
-    (λ c. let g = (c .before .before .before .before .before .before .before .before .before) .args in told-both ((c .before .before .before .before .before .before .leave) .result) ((c .before .before .before .before .before .leave2) .result) ((c .before .before .same-words) .result) ((c .before .same-words2) .result) ((c .both) .result) (sameWords (take (length (now (g .mem))) (now (g .saved))) (now (g .mem))) (search needs) ((c .before .before .same-words) .ensures) ((c .before .same-words2) .ensures) ((c .both) .ensures) ∙ ap₂ (λ (x y : List ℕ). sameWords x y && sameWords (take (length (now (g .mem))) (now (g .saved))) (now (g .mem))) ((c .before .before .before .before .before .before .leave) .ensures) ((c .before .before .before .before .before .leave2) .ensures)))
+    (λ c. let g = (c .before .before .before .before .before .before .before .before .before) .args in told-both ((c .before .before .before .before .before .before .leave) .result) ((c .before .before .before .before .before .leave2) .result) ((c .before .before .same-words) .result) ((c .before .same-words2) .result) ((c .both) .result) (same (take (length (now (g .mem))) (now (g .saved))) (now (g .mem))) (search needs) ((c .before .before .same-words) .ensures) ((c .before .same-words2) .ensures) ((c .both) .ensures) ∙ ap₂ (λ (x y : List ℕ). same x y && same (take (length (now (g .mem))) (now (g .saved))) (now (g .mem))) ((c .before .before .before .before .before .before .leave) .ensures) ((c .before .before .before .before .before .leave2) .ensures)))
