@@ -131,7 +131,7 @@ pub extern "C" fn crank_make_table(
     table: &mut [u32],
     scratch: &mut [u32],
 ) -> Made
-    ensures { λ a. ⌜ MakePromise (machineOf r (now (mem .entry)) (now (table .entry))) limit (now (scratch .entry)) (a .refusal) (a .cycles) (machineOf (a .state) (now (mem .exit)) (now (table .exit))) (now (scratch .exit)) ⌝ }
+    ensures { λ a. ⌜ MakePromise (atEntry r mem table) limit (now (scratch .entry)) (a .refusal) (a .cycles) (atExit (a .state) mem table) (now (scratch .exit)) ⌝ }
 {
     maker::make(r, limit, mem, table, scratch)
 }

@@ -1,6 +1,6 @@
 -- The call around the walk: what an accepted start gives, and what is promised of either end. Assumes nothing.
 use mathlib.Core.Path.{_≡_, refl, sym, ap, _∙_}
-use mathlib.Core.Bool.{Bool, true, false, _&&_}
+use mathlib.Core.Bool.{Bool, true, false, not, _&&_}
 use mathlib.Core.List.{List, _++_}
 use Prim.Native.Nat.{ℕ, _*_, _<_, _≤_}
 use native.Mathlib.Omega.{arith}
@@ -9,6 +9,7 @@ use lib.ListN.{length, getD, take, drop, take-append-drop, length-take}
 use lib.Seq.{length-take-le, drop-append-seam}
 use borrow.Author.Tests.{ltb-true, leb-true, eqb-true, ne-eqb, not-false}
 use Rattle.word.specs.Word.{pick}
+use Rattle.word.specs.Refusal.{refuse}
 use Rattle.step.specs.Sizes.{inRange, badSizes}
 use Rattle.machine.specs.Turn.{starts}
 use Rattle.machine.specs.declared.Record.{Record}
@@ -16,8 +17,8 @@ use Rattle.machine.specs.Machine.{statusOf, Machine, machineOf, leftAs, stateOf
 use Rattle.maker.specs.declared.Made.{Made}
 use Rattle.maker.specs.Parts.{Sized}
 use Rattle.maker.specs.Make.{mostWords, walkOver, scratchWords, canBegin, refusalOf, outcomeOf, madeAs, answerOf, drawnBy, MakePromise}
-use Rattle.word.proofs.Words.{and-true}
-use Rattle.maker.proofs.Counts.{not-first, not-second}
+use Rattle.word.proofs.Words.{and-true, not-not}
+use Rattle.maker.proofs.Counts.{refuse-none}
 
 -- ---- what a start that is not refused gives
 
@@ -41,7 +42,7 @@ ready x scratch e =
     let r = x .state in
     let mem = x .memory in
     let table = x .table in
-    let w = not-first (wrongSizes x) 9 (pick (canBegin x scratch) 0 22) e in
+    let w = refuse-none (wrongSizes x) 9 (refuse (not (canBegin x scratch)) 22 0) e in
     let q₀ : Bool = leb (r .m) (length (take (r .m) mem)) && leb (9 * r .n) (length (stateOf x .links)) in
     let p₃ : Bool = leb (r .m) 8192 && leb (r .n) 511 in
     let p₂ : Bool = leb (r .k) (r .m) && p₃ in
@@ -53,7 +54,7 @@ ready x scratch e =
     let r₄ : Bool = leb mostWords (length table) && leb (scratchWords r) (length scratch) in
     let r₃ : Bool = eqb (r .qifw) 0 && r₄ in
     let r₂ : Bool = eqb (r .n) 0 && r₃ in
-    let g = and-true (starts (statusOf r) (take (r .m) mem) (getD (r .regs) 0 0)) r₂ (not-second _ 21 0 (w .1) .0) in
+    let g = and-true (starts (statusOf r) (take (r .m) mem) (getD (r .regs) 0 0)) r₂ (not-not _ (refuse-none (not (canBegin x scratch)) 21 0 (w .1) .0)) in
     let h = and-true (eqb (r .qifw) 0) r₄ (and-true (eqb (r .n) 0) r₃ (g .1) .1) in
     let i = and-true (leb mostWords (length table)) (leb (scratchWords r) (length scratch)) (h .1) in
     let long : r .m ≤ length mem = omega (arith, leb-true (r .m) (length (take (r .m) mem)) (f .0), shorter (r .m) mem) in

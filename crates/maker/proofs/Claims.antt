@@ -1,6 +1,6 @@
 -- The claims of a made table. Assumes nothing.
 use mathlib.Core.Path.{_≡_, refl, sym, ap, ap₂, _∙_, subst, subst₂}
-use mathlib.Core.Bool.{Bool, true, false, _&&_, _||_, false≢true}
+use mathlib.Core.Bool.{Bool, true, false, not, _&&_, _||_, false≢true}
 use mathlib.Core.Logic.{_⊎_, inl, inr}
 use mathlib.Core.List.{List, [], _∷_, _++_}
 use Prim.Native.Nat.{ℕ, zero, suc, _+_, _-_, _*_, _<_, _≤_}
@@ -182,7 +182,7 @@ listed i h e = false≢true (subst (λ (j : ℕ). isOneOf j walkRefusals ≡ tru
 
 -- 10 or 22
 abbrev number : Bool → Bool → ℕ
-number a b = pick a 10 (pick b 0 22)
+number a b = refuse a 10 (refuse (not b) 22 0)
 
 module _ {x y : Machine} {limit n c : ℕ} {scratch scratch′ : List ℕ} (m : MakePromise x limit scratch n c y scratch′) where
   abbrev a : Made
@@ -248,6 +248,7 @@ module _ {x y : Machine} {limit n c : ℕ} {scratch scratch′ : List ℕ} (m : 
   -- ---- refused
 
   numbers : isOneOf (n) (0 ∷ 10 ∷ 22 ∷ walkRefusals) ≡ true
+  unfolding refuse
   numbers =
       by-case (isOneOf (n) (0 ∷ 10 ∷ 22 ∷ walkRefusals) ≡ true)
       (λ k e t. from start (ap (λ (b : Made). b .refusal) e) (at-once (wrongSizes x) (canBegin x scratch)))
@@ -257,7 +258,7 @@ module _ {x y : Machine} {limit n c : ℕ} {scratch scratch′ : List ℕ} (m : 
       from : (i : ℕ) → n ≡ i → isOneOf i (0 ∷ 10 ∷ 22 ∷ walkRefusals) ≡ true → isOneOf (n) (0 ∷ 10 ∷ 22 ∷ walkRefusals) ≡ true
       from i e h = subst (λ (j : ℕ). isOneOf j (0 ∷ 10 ∷ 22 ∷ walkRefusals) ≡ true) (sym e) h
 
-      at-once : (x y : Bool) → isOneOf (pick x 10 (pick y 0 22)) (0 ∷ 10 ∷ 22 ∷ walkRefusals) ≡ true
+      at-once : (x y : Bool) → isOneOf (number x y) (0 ∷ 10 ∷ 22 ∷ walkRefusals) ≡ true
       at-once true y = refl
       at-once false true = refl
       at-once false false = refl
@@ -292,6 +293,7 @@ module _ {x y : Machine} {limit n c : ℕ} {scratch scratch′ : List ℕ} (m : 
       not-zero (inr e) z = omega (arith, e, z)
 
   cleared : isOneOf (n) walkRefusals ≡ true → y .table ≡ zeros mostWords ++ drop mostWords (x .table)
+  unfolding refuse
   cleared f =
       by-case (y .table ≡ zeros mostWords ++ drop mostWords (x .table))
       (λ k e t. absurd (at-once (wrongSizes x) (canBegin x scratch) k

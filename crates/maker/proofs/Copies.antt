@@ -109,7 +109,7 @@ alike-not a b i h k n = sym (same-unequal (take (length a) b) a (λ e. n (sym (a
 pub alike-all : (a b : List ℕ) (i : ℕ) → length a ≤ length b → length a ≤ i → Alike a b i → true ≡ same (take (length a) b) a
 alike-all a b i h k c = sym (ap (λ (l : List ℕ). same l a) (front a b h (λ j r. c .words j (omega (arith, r, k)))) ∙ same-self a)
 
--- ---- the memory in the front of the scratch, while the part behind it is lent on
+-- ---- the memory in the front of the scratch, while the part after it is lent on
 
 -- saved in s₁ and put back by the exchange: the memory m₂ is m₀ again
 pub put-back : (m₀ m₁ s₁ ys m₂ : List ℕ) → length m₀ ≤ length s₁ → take (length m₀) s₁ ≡ m₀ → length m₁ ≡ length m₀
@@ -117,7 +117,7 @@ pub put-back : (m₀ m₁ s₁ ys m₂ : List ℕ) → length m₀ ≤ length s�
 put-back m₀ m₁ s₁ ys m₂ h e q p =
     p ∙ (ap (λ (k : ℕ). take k (putMid (length m₀) (length s₁ - length m₀) s₁ ys)) q ∙ (take-put (length m₀) (length s₁ - length m₀) s₁ ys h ∙ e))
 
--- what the comparison told: s holds m₁ in its first k words, and the part behind was lent on since
+-- what the comparison told: s holds m₁ in its first k words, and the part after was lent on since
 pub told-same : (k : ℕ) (m₁ s ys m₃ : List ℕ) (b : Bool) → k ≤ length s → length m₁ ≡ k → length m₃ ≡ k → take (length m₁) s ≡ m₁
     → b ≡ same (take (length m₃) (putMid k (length s - k) s ys)) m₃ → b ≡ same m₁ m₃
 told-same k m₁ s ys m₃ b h p q e r =

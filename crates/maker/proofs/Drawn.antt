@@ -408,7 +408,7 @@ module _ (T T′ : List ℕ) (N : ℕ) where
         }) (h .3),
       )
     where
-      -- any word of a node made since, but for the last
+      -- any word of a node made since, except the last
       new-word : (u i : ℕ) → n < u → u < n + size p + forkSize a b → i < 9 → word T u i ≡ word T′ u i
       new-word u i k l j = g .made u i k (omega (arith, l)) j (λ z. absurd (omega (arith, z, l)))
 

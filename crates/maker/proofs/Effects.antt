@@ -3,7 +3,6 @@ use mathlib.Core.Path.{_≡_, refl, subst}
 use mathlib.Core.Bool.{Bool, true, false}
 use mathlib.Core.Logic.{inl, inr}
 use mathlib.Core.List.{[]}
-use Prim.Native.Nat.{ℕ}
 use Rattle.word.specs.Refusal.{refuse}
 use Rattle.qins.specs.Op.{Op}
 use Rattle.qins.specs.Op.Op.{Qif, Fiq}

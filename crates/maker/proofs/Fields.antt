@@ -25,7 +25,7 @@ line-kind o k test op rest = go (eqb o k && test)
     go true = refl
     go false = refl
 
--- a plain line, before those of qif and fiq and behind them
+-- a plain line, before those of qif and fiq and after them
 before : (o k : ℕ) (test : Bool) (op rest : Op) (a : ℕ) (t : Bool) → kindBy k a t ≡ Plain → kindOf op ≡ Plain → kindOf rest ≡ kindBy o a t
     → kindOf (line o k test op rest) ≡ kindBy o a t
 before o k test op rest a t x h g = line-kind o k test op rest ∙ go (eqb o k && test) refl

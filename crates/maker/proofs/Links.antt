@@ -239,7 +239,7 @@ made-paired p t v l z =
     let start : Ready (1 + size p) t 1 1 = record { closed = λ u j h k. inl (z _); at = λ i k. z _; above = λ u i h k. z _ } in
     all-paired (drawn p 1 1 t) (1 + size p) (ready (1 + size p) p 1 1 t (omega arith) (omega arith) (omega arith) l start .closed) v
 
--- the words behind the nodes stay zero
+-- the words after the nodes stay zero
 pub made-zeros : (p : Walk) (t : List ℕ) (i : ℕ) → 1 + size p ≤ 511 → 9 * 511 ≤ length t → ((i : ℕ) → getD t i 0 ≡ 0) → 9 * (1 + size p) ≤ i
     → getD (drawn p 1 1 t) i 0 ≡ 0
 made-zeros p t i h l z k =

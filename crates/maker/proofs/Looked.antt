@@ -1,9 +1,10 @@
 -- What the look at a word says of it. Assumes nothing.
 use mathlib.Core.Path.{_≡_, refl, subst}
-use mathlib.Core.Bool.{Bool, true, false}
+use mathlib.Core.Bool.{Bool, true, false, not}
 use mathlib.Core.List.{[]}
 use Prim.Native.Nat.{ℕ}
 use Rattle.word.specs.Word.{pick}
+use Rattle.word.specs.Refusal.{refuse}
 use Rattle.qins.specs.Op.Op.{Qif, Fiq}
 use Rattle.step.specs.declared.Attempt.{Attempt}
 use Rattle.step.specs.declared.Attempt.the-variants.{Refused, Does}
@@ -58,12 +59,14 @@ module _ (s : View) (code : isCode (s .at) (pc s) ≡ true) (runs : finishes (s 
   by-effect p (Refused n) d f = f
   by-effect p (Does e) d f = record { plain = p; e = e; does = d; code = code; runs = runs; next = refl }
 
-  by-qif : (a : ℕ) → opAt s ≡ Qif a → (x y : Bool) → isRegister s a ≡ x → isBeforeStart s ≡ y → Says s (pick x (pick y (halts 18) forks) (halts 13))
+  by-qif : (a : ℕ) → opAt s ≡ Qif a → (x y : Bool) → isRegister s a ≡ x → isBeforeStart s ≡ y → Says s (refuse (not x) (halts 13) (refuse y (halts 18) forks))
+  unfolding refuse
   by-qif a q true true h k = refl
   by-qif a q true false h k = record { a = a; op = q; named = h; code = code; runs = runs; free = k }
   by-qif a q false y h k = refl
 
-  by-fiq : (a : ℕ) → opAt s ≡ Fiq a → (x : Bool) → isRegister s a ≡ x → Says s (pick x joins (halts 13))
+  by-fiq : (a : ℕ) → opAt s ≡ Fiq a → (x : Bool) → isRegister s a ≡ x → Says s (refuse (not x) (halts 13) joins)
+  unfolding refuse
   by-fiq a q true h = record { a = a; op = q; named = h; code = code; runs = runs }
   by-fiq a q false h = refl
 
@@ -73,7 +76,8 @@ module _ (s : View) (code : isCode (s .at) (pc s) ≡ true) (runs : finishes (s 
   by-kind (Closes a) q = by-fiq a (kindOf-shape (opAt s) _ q) (isRegister s a) refl
 
 by-tests : (s : View) (x y : Bool) → isCode (s .at) (pc s) ≡ x → finishes (s .memory) (pc s) ≡ y
-    → Says s (pick x (pick y last (lookBy (kindOf (opAt s)) (opAt s) (placed 0 0 0 s))) (halts 11))
+    → Says s (refuse (not x) (halts 11) (pick y last (lookBy (kindOf (opAt s)) (opAt s) (placed 0 0 0 s))))
+unfolding refuse
 by-tests s true true p q = (p, q)
 by-tests s true false p q = by-kind s p q (kindOf (opAt s)) refl
 by-tests s false y p q = refl
@@ -100,5 +104,5 @@ halt-is s k e = subst (Says s) e (says s)
 -- ---- and back
 
 pub is-qif : (s : View) → AtQif s → lookAt s ≡ forks
-unfolding lookAt
+unfolding lookAt refuse
 is-qif s h = rw (h .code, h .runs, h .op, h .named, h .free)

@@ -1,12 +1,13 @@
 -- The loop of branch: what it keeps, and what it answers at each way out. Assumes nothing.
 use mathlib.Core.Path.{_≡_, refl, sym, ap, ap₂, _∙_, subst}
-use mathlib.Core.Bool.{Bool, true, false}
+use mathlib.Core.Bool.{Bool, true, false, not}
 use mathlib.Core.List.{List}
 use Prim.Native.Nat.{ℕ, suc, _+_, _-_, _<_, _≤_}
 use native.Mathlib.Omega.{arith}
 use lib.ListN.{length}
-use borrow.Author.Tests.{lt-ltb, le-ltb}
-use Rattle.word.specs.Word.{pick}
+use borrow.Author.Tests.{le-leb, lt-leb}
+use Rattle.word.specs.Refusal.{refuse}
+use Rattle.word.proofs.Refusal.{refuse-true, refuse-false}
 use Rattle.step.specs.View.{View}
 use Rattle.maker.specs.Walk.{Walk, size, used, cycles, ending, drawn, forkSize, forkUsed, forkCycles, forkDrawn}
 use Rattle.maker.specs.Walk.Walk.{begin, step, fork}
@@ -61,21 +62,21 @@ module _ (k w limit nest : ℕ) (inside : Bool) (v n u : ℕ) (s₀ m₀ t₀ : 
     unfolding walkBy
     at-halts i e = rw e
 
-    at-last : lookAt s ≡ last → rest (suc f) p s ≡ pick inside (refused 12) (ended p s)
+    at-last : lookAt s ≡ last → rest (suc f) p s ≡ refuse inside (refused 12) (ended p s)
     unfolding walkBy
     at-last e = rw e
 
-    at-join : lookAt s ≡ joins → rest (suc f) p s ≡ pick inside (ended p s) (refused 17)
+    at-join : lookAt s ≡ joins → rest (suc f) p s ≡ refuse (not inside) (refused 17) (ended p s)
     unfolding walkBy
     at-join e = rw e
 
     at-limit : (z : View) → lookAt s ≡ goes z → limit ≤ u + used p → rest (suc f) p s ≡ refused 23
-    unfolding walkBy
-    at-limit z e h = rw (e, le-ltb _ _ h)
+    unfolding walkBy refuse
+    at-limit z e h = rw (e, le-leb _ _ h)
 
     at-goes : (z : View) → lookAt s ≡ goes z → u + used p < limit → rest (suc f) p s ≡ rest f (step p) z
-    unfolding walkBy
-    at-goes z e h = rw (e, lt-ltb _ _ h)
+    unfolding walkBy refuse
+    at-goes z e h = rw (e, lt-leb _ _ h)
 
     at-failed : (i : ℕ) → lookAt s ≡ forks → forkAt machine limit nest (n + size p) (u + used p) s ≡ failed i → rest (suc f) p s ≡ refused i
     unfolding walkBy
@@ -113,19 +114,19 @@ module _ (k w limit nest : ℕ) (inside : Bool) (v n u : ℕ) (s₀ m₀ t₀ : 
 
       pub finished-in : (r : Walked) (d y : List ℕ) → x ≡ Last → inside ≡ true → r ≡ refusedBy 12 → Shown k w whole v n u t₀ r d y
       finished-in r d y e i q =
-          out r d y (first ∙ (at-last less (g .walk) here (saw x Last l z h e .0) ∙ ap (λ (b : Bool). pick b (refused 12) (ended (g .walk) here)) i)) (q, λ z. omega (arith, z))
+          out r d y (first ∙ (at-last less (g .walk) here (saw x Last l z h e .0) ∙ refuse-true inside _ _ i)) (q, λ z. omega (arith, z))
 
       pub finished : x ≡ Last → inside ≡ false → Shown k w whole v n u t₀ at t z
       finished e i =
-          out at t z (first ∙ (at-last less (g .walk) here (saw x Last l z h e .0) ∙ ap (λ (b : Bool). pick b (refused 12) (ended (g .walk) here)) i)) (g .is, g .table, ap (viewAt k w (at .regs)) (sym (saw x Last l z h e .1)))
+          out at t z (first ∙ (at-last less (g .walk) here (saw x Last l z h e .0) ∙ refuse-false inside _ _ i)) (g .is, g .table, ap (viewAt k w (at .regs)) (sym (saw x Last l z h e .1)))
 
       pub joined : x ≡ Joins → inside ≡ true → Shown k w whole v n u t₀ at t z
       joined e i =
-          out at t z (first ∙ (at-join less (g .walk) here (saw x Joins l z h e .0) ∙ ap (λ (b : Bool). pick b (ended (g .walk) here) (refused 17)) i)) (g .is, g .table, ap (viewAt k w (at .regs)) (sym (saw x Joins l z h e .1)))
+          out at t z (first ∙ (at-join less (g .walk) here (saw x Joins l z h e .0) ∙ refuse-false (not inside) _ _ (ap not i))) (g .is, g .table, ap (viewAt k w (at .regs)) (sym (saw x Joins l z h e .1)))
 
       pub joined-out : (r : Walked) (d y : List ℕ) → x ≡ Joins → inside ≡ false → r ≡ refusedBy 17 → Shown k w whole v n u t₀ r d y
       joined-out r d y e i q =
-          out r d y (first ∙ (at-join less (g .walk) here (saw x Joins l z h e .0) ∙ ap (λ (b : Bool). pick b (ended (g .walk) here) (refused 17)) i)) (q, λ z. omega (arith, z))
+          out r d y (first ∙ (at-join less (g .walk) here (saw x Joins l z h e .0) ∙ refuse-true (not inside) _ _ (ap not i))) (q, λ z. omega (arith, z))
 
       pub limited : (r : Walked) (d y : List ℕ) → x ≡ Goes → limit ≤ at .used → r ≡ refusedBy 23 → Shown k w whole v n u t₀ r d y
       limited r d y e i q =

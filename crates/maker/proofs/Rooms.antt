@@ -41,7 +41,7 @@ room-of (suc n) m l h = let k : n * m + m ≤ l = subst (λ (x : ℕ). x ≤ l) 
 pub room-eight : (m l : ℕ) → 16 * m ≤ l → Room 8 m (l - m)
 room-eight m l h = room-of 8 m (l - m) (omega (arith, h))
 
--- behind the first m words of s, as long as s₀, there is room for one nesting less
+-- after the first m words of s, as long as s₀, there is room for one nesting less
 pub deeper : (n m k : ℕ) (s₀ s : List ℕ) → ¬ (n ≡ 0) → Room n m (length s₀) → length s ≡ length s₀ → k ≡ m → Room (n - 1) k (length (midOf m (length s - m) s))
 deeper n m k s₀ s h r e q =
     as-long (n - 1) m (length s - m) k _ q (mid-len m s) (inner (n - 1) m (length s) (less n m (length s) h (as-long n m (length s₀) m (length s) refl e r)))

@@ -12,7 +12,7 @@ use Rattle.step.specs.Step.{value, attempt}
 use Rattle.step.specs.Sizes.{inRange, badSizes}
 use Rattle.machine.specs.Turn.{landed}
 use Rattle.maker.specs.Walk.{size, used, cycles, ending, put, pair, linked, drawn}
-use Rattle.maker.specs.Making.{byOutcome, unless, forkBy, walkBy, forkAt}
+use Rattle.maker.specs.Making.{byOutcome, forkBy, walkBy, forkAt}
 use Rattle.maker.specs.Idle.{idleOp, lookAt}
 use Rattle.maker.specs.Make.{outcomeOf}
 use Rattle.maker.specs.Rows.{Row, observed, Hold, rows}
@@ -29,7 +29,7 @@ holds [] h = tt
 holds (x ∷ rest) h = let p = and-true (shown x) (test rest) h in (same-equal _ (x .shows) (p .0), holds rest (p .1))
 
 tested : test rows ≡ true
-unfolding addWord subWord inRange badSizes outcomeOf byOutcome unless forkBy walkBy forkAt lookAt idleOp same decode operation line extended value refuse attempt landed size used cycles ending put pair linked drawn
+unfolding addWord subWord inRange badSizes outcomeOf byOutcome forkBy walkBy forkAt lookAt idleOp same decode operation line extended value refuse attempt landed size used cycles ending put pair linked drawn
 tested = refl
 
 pub rows-hold : Hold rows

@@ -1,10 +1,11 @@
 -- Where the table maker accepts, its tree is the machine's own walk. Over any lawful machine. Assumes nothing.
 use mathlib.Core.Path.{_≡_, refl, sym, ap, _∙_, subst}
-use mathlib.Core.Bool.{Bool, true, false}
+use mathlib.Core.Bool.{Bool, true, false, not}
 use Prim.Native.Nat.{ℕ, zero, suc, _+_, _≤_}
 use native.Mathlib.Omega.{arith}
-use lib.Dec.{ltb}
+use lib.Dec.{leb}
 use Rattle.word.specs.Word.{pick}
+use Rattle.word.specs.Refusal.{refuse}
 use Rattle.maker.specs.Walk.{Walk, size, used, forkSize}
 use Rattle.maker.specs.Walk.Walk.{begin, step, fork}
 use Rattle.maker.specs.Walkable.{Look, Walkable}
@@ -35,17 +36,20 @@ module _ {S : Type 0} (M : Walkable S) (L : Lawful M) (limit : ℕ) where
   Sound qif = (n u : ℕ) (s : S) → AllForks (qif n u s) (Forked n s)
 
   module _ (qif : ℕ → ℕ → S → Forks S) (sound : Sound qif) (inside : Bool) (n u : ℕ) (s₀ : S) where
-    picked : (x : Bool) (o q : Outcome S) → AllEnded o (Ended inside n s₀) → AllEnded q (Ended inside n s₀) → AllEnded (pick x o q) (Ended inside n s₀)
-    picked true o q h k = h
-    picked false o q h k = k
+    passed : (x : Bool) (k : ℕ) (o : Outcome S) → AllEnded o (Ended inside n s₀) → AllEnded (refuse x (refused k) o) (Ended inside n s₀)
+    unfolding refuse
+    passed true k o h = tt
+    passed false k o h = h
 
     finish : (x : Bool) (p : Walk) (s : S) → M .look s ≡ last → Walks M s₀ p s → n + size p ≤ 511
-        → inside ≡ x → AllEnded (pick x (refused 12) (ended p s)) (Ended inside n s₀)
+        → inside ≡ x → AllEnded (refuse x (refused 12) (ended p s)) (Ended inside n s₀)
+    unfolding refuse
     finish true p s e h r i = tt
     finish false p s e h r i = record { walks = h; stands = e ∙ sym (ap (λ (y : Bool). pick y joins last) i); room = r }
 
     join : (x : Bool) (p : Walk) (s : S) → M .look s ≡ joins → Walks M s₀ p s → n + size p ≤ 511
-        → inside ≡ x → AllEnded (pick x (ended p s) (refused 17)) (Ended inside n s₀)
+        → inside ≡ x → AllEnded (refuse (not x) (refused 17) (ended p s)) (Ended inside n s₀)
+    unfolding refuse
     join true p s e h r i = record { walks = h; stands = e ∙ sym (ap (λ (y : Bool). pick y joins last) i); room = r }
     join false p s e h r i = tt
 
@@ -57,15 +61,15 @@ module _ {S : Type 0} (M : Walkable S) (L : Lawful M) (limit : ℕ) where
     one-more : (f : ℕ) (p : Walk) (s : S) → Walks M s₀ p s → n + size p ≤ 511
         → ((q : Walk) (z : S) → Walks M s₀ q z → n + size q ≤ 511 → AllEnded (walkBy M limit qif inside f n u q z) (Ended inside n s₀))
         → (x : Look S) → M .look s ≡ x
-        → AllEnded (byLook x refused (pick inside (refused 12) (ended p s))
-        (λ s₁. pick (ltb (u + used p) limit) (walkBy M limit qif inside f n u (step p) s₁) (refused 23))
+        → AllEnded (byLook x refused (refuse inside (refused 12) (ended p s))
+        (λ s₁. refuse (leb limit (u + used p)) (refused 23) (walkBy M limit qif inside f n u (step p) s₁))
         (byForks (qif (n + size p) (u + used p) s) refused (λ a b s₁. walkBy M limit qif inside f n u (fork p a b) s₁))
-        (pick inside (ended p s) (refused 17))) (Ended inside n s₀)
+        (refuse (not inside) (refused 17) (ended p s))) (Ended inside n s₀)
     unfolding size
     one-more f p s h r more (halts k) e = tt
     one-more f p s h r more last e = finish inside p s e h r refl
     one-more f p s h r more (goes z) e =
-        picked (ltb (u + used p) limit) (walkBy M limit qif inside f n u (step p) z) (refused 23) (more (step p) z (s, h, e) r) tt
+        passed (leb limit (u + used p)) 23 (walkBy M limit qif inside f n u (step p) z) (more (step p) z (s, h, e) r)
     one-more f p s h r more forks e =
         forking (qif (n + size p) (u + used p) s) (λ a b s₁. walkBy M limit qif inside f n u (fork p a b) s₁) (n + size p) s (sound (n + size p) (u + used p) s)
         (λ a b z k. more (fork p a b) z (s, h, e, k .zero-side, k .one-side) (omega (arith, k .room)))

@@ -147,26 +147,28 @@ module _ (k m : ℕ) (l z : List ℕ) where
   word = getD z (getD l 0 0) 0
 
   pub look-out : k ≤ getD l 0 0 → lookAt (viewAt k m l z) ≡ halts 11
-  unfolding lookAt
+  unfolding lookAt refuse
   look-out h = rw (le-ltb (getD l 0 0) k h)
 
   pub look-last : getD l 0 0 < k → getD z (getD l 0 0) 0 ≡ finishWord → lookAt (viewAt k m l z) ≡ last
-  unfolding lookAt
+  unfolding lookAt refuse
   look-last h e = rw (lt-ltb (getD l 0 0) k h, eq-eqb (getD z (getD l 0 0) 0) finishWord e)
 
   module _ (low : getD l 0 0 < k) (runs : ¬ (getD z (getD l 0 0) 0 ≡ finishWord)) where
     by-kind : (q : Kind) → kindOf (idleOp word) ≡ q → lookAt (viewAt k m l z) ≡ lookBy q (idleOp word) (viewAt k m l z)
-    unfolding lookAt
+    unfolding lookAt refuse
     by-kind q e =
         rw (lt-ltb (getD l 0 0) k low, ne-eqb (getD z (getD l 0 0) 0) finishWord runs)
         (ap (λ (q : Kind). lookBy q (idleOp word) (viewAt k m l z)) e)
 
     pub look-qif : (a : ℕ) → length l ≡ 16 → kindOf (idleOp word) ≡ Opens a → (b : Bool) → isBeforeStart (viewAt k m l z) ≡ b
         → lookAt (viewAt k m l z) ≡ pick b (halts 18) forks
-    look-qif a h e b q =
-        by-kind (Opens a) e ∙ rw (qif-register (viewAt k m l z) word a h (kindOf-shape (idleOp word) (Opens a) e), q)
+    unfolding refuse
+    look-qif a h e true q = by-kind (Opens a) e ∙ rw (qif-register (viewAt k m l z) word a h (kindOf-shape (idleOp word) (Opens a) e), q)
+    look-qif a h e false q = by-kind (Opens a) e ∙ rw (qif-register (viewAt k m l z) word a h (kindOf-shape (idleOp word) (Opens a) e), q)
 
     pub look-fiq : (a : ℕ) → length l ≡ 16 → kindOf (idleOp word) ≡ Closes a → lookAt (viewAt k m l z) ≡ joins
+    unfolding refuse
     look-fiq a h e = by-kind (Closes a) e ∙ rw (fiq-register (viewAt k m l z) word a h (kindOf-shape (idleOp word) (Closes a) e))
 
     pub look-plain : kindOf (idleOp word) ≡ Plain → lookAt (viewAt k m l z) ≡ plain (idleOp word) (viewAt k m l z)

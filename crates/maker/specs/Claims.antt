@@ -1,4 +1,4 @@
--- What is claimed of a made table (document 02, #107): of whatever the call answers, and of the walk behind it.
+-- What is claimed of a made table (document 02, #107): of whatever the call answers, and of the walk that makes it.
 use Prim.Native.Nat.{ℕ, _+_, _<_, _≤_}
 use mathlib.Core.Path.{_≡_}
 use mathlib.Core.Bool.{Bool, true, false, _||_}
@@ -42,7 +42,7 @@ pub record OnMade : Type 0 where
   pub paired : {x y : Machine} {limit n c : ℕ} {scratch scratch′ : List ℕ} → MakePromise x limit scratch n c y scratch′ → n ≡ 0
       → (v : ℕ) → 0 < v → v ≤ y .state .n → checkNodeOf y v ≡ 0
   pub checked : {x y : Machine} {limit n c : ℕ} {scratch scratch′ : List ℕ} → MakePromise x limit scratch n c y scratch′ → n ≡ 0 → checkOf y .refusal ≡ 8 → ⊥
-  -- zeros behind the nodes
+  -- zeros after the nodes
   pub zeros : {x y : Machine} {limit n c : ℕ} {scratch scratch′ : List ℕ} → MakePromise x limit scratch n c y scratch′ → n ≡ 0
       → (i : ℕ) → tableWords (y .state .n) ≤ i → i < mostWords → getD (y .table) i 0 ≡ 0
 

@@ -1,10 +1,11 @@
 -- The machine as the maker walks it: uni and unib idle, node, wait count and position left aside (document 02, #107).
 use Prim.Native.Nat.{ℕ}
-use mathlib.Core.Bool.{Bool, _&&_, _||_}
+use mathlib.Core.Bool.{Bool, not, _&&_, _||_}
 use mathlib.Core.List.{[]}
 use lib.Dec.{eqb, ltb}
 use lib.ListN.{length, getD}
 use Rattle.word.specs.Word.{pick}
+use Rattle.word.specs.Refusal.{refuse}
 use Rattle.qins.specs.Op.{Op}
 use Rattle.qins.specs.Op.Op.{None, Start}
 use Rattle.qins.specs.Decode.{opcode, decode, isInstruction}
@@ -67,15 +68,14 @@ isRegister s a = ltb 1 a && ltb a (length (s .regs))
 
 abbrev pub lookBy : Kind → Op → View → Look View
 lookBy Plain o s = plain o s
-lookBy (Opens a) o s = pick (isRegister s a) (pick (isBeforeStart s) (halts 18) forks) (halts 13)
-lookBy (Closes a) o s = pick (isRegister s a) joins (halts 13)
+lookBy (Opens a) o s = refuse (not (isRegister s a)) (halts 13) (refuse (isBeforeStart s) (halts 18) forks)
+lookBy (Closes a) o s = refuse (not (isRegister s a)) (halts 13) joins
 
 unfoldable pub lookAt : View → Look View
 lookAt s =
-    pick (isCode (s .at) (pc s))
+    refuse (not (isCode (s .at) (pc s))) (halts 11)
     (pick (finishes (s .memory) (pc s)) last
     (lookBy (kindOf (opAt s)) (opAt s) (placed 0 0 0 s)))
-    (halts 11)
 
 -- ---- all of it
 

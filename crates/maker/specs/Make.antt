@@ -1,11 +1,12 @@
 -- The call (document 02, #107): refusals in order, the answer, and what it leaves of the lent words.
 use Prim.Native.Nat.{ℕ, _+_, _*_}
 use mathlib.Core.Path.{_≡_}
-use mathlib.Core.Bool.{Bool, false, _&&_}
+use mathlib.Core.Bool.{Bool, false, not, _&&_}
 use mathlib.Core.List.{List, _++_}
 use lib.Dec.{eqb, leb}
 use lib.ListN.{length, getD, drop, replicate}
 use Rattle.word.specs.Word.{pick}
+use Rattle.word.specs.Refusal.{refuse}
 use Rattle.step.specs.Table.{tableWords}
 use Rattle.step.specs.Sizes.{maxNodes}
 use Rattle.step.specs.View.{View, withNode, withNodes}
@@ -39,7 +40,7 @@ canBegin x scratch =
 
 -- 10 or 22, else 0
 abbrev pub refusalOf : Machine → List ℕ → ℕ
-refusalOf x scratch = pick (wrongSizes x) 10 (pick (canBegin x scratch) 0 22)
+refusalOf x scratch = refuse (wrongSizes x) 10 (refuse (not (canBegin x scratch)) 22 0)
 
 -- ---- the walk: from node 1, the only one made, with no cycle used and a nesting of eight
 
@@ -68,7 +69,7 @@ makeOf x limit scratch =
     let n = refusalOf x scratch in
     pick (eqb n 0) (answerOf (x .state) (outcomeOf x limit)) (madeAs n 0 (x .state))
 
--- ---- the table at exit: the nodes and then zeros, or zeros alone; behind them, and after 10 and 22, as it was
+-- ---- the table at exit: the nodes and then zeros, or zeros alone; after them, and after 10 and 22, as it was
 
 abbrev pub drawnBy : Outcome View → List ℕ
 drawnBy (refused i) = replicate mostWords 0
@@ -85,6 +86,6 @@ pub record MakePromise (x : Machine) (limit : ℕ) (scratch : List ℕ) (n c : �
   pub answer : madeAs n c (y .state) ≡ makeOf x limit scratch
   pub memory : y .memory ≡ x .memory
   pub nodes : y .table ≡ tableAfter x limit scratch
-  -- behind its first 16 M words the scratch is as it was, and all of it is after 10 and 22
+  -- after its first 16 M words the scratch is as it was, and all of it is after 10 and 22
   pub behind : drop (scratchWords (x .state)) scratch′ ≡ drop (scratchWords (x .state)) scratch
   pub untouched : (refusalOf x scratch ≡ 0 → ⊥) → scratch′ ≡ scratch

@@ -1,8 +1,8 @@
 -- The walk that makes a table (document 02, #107): the number that refuses it, else its tree and the state at its end.
 use Prim.Native.Nat.{ℕ, zero, suc, _+_}
-use mathlib.Core.Bool.{Bool, true}
+use mathlib.Core.Bool.{Bool, true, not}
 use lib.Dec.{ltb, leb}
-use Rattle.word.specs.Word.{pick}
+use Rattle.word.specs.Refusal.{refuse}
 use Rattle.maker.specs.Walk.{Walk, size, used}
 use Rattle.maker.specs.Walk.Walk.{begin, step, fork}
 use Rattle.maker.specs.Walkable.{Look, Walkable}
@@ -33,38 +33,24 @@ module _ {S A : Type 0} where
   byForks (failed k) r e = r k
   byForks (forked a b s) r e = e a b s
 
--- the number where it isn't 0, else the rest
-unfoldable pub unless : {S : Type 0} → ℕ → Forks S → Forks S
-unless zero rest = rest
-unless (suc k) rest = failed (suc k)
-
 module _ {S : Type 0} (M : Walkable S) (limit : ℕ) where
-  -- at a qif with n nodes made and u cycles used: 23 where the limit is, or where two nodes more would be above 511
-  abbrev pub qifRefusal : ℕ → ℕ → ℕ
-  qifRefusal n u = pick (leb limit u) 23 (pick (ltb 509 n) 23 0)
-
-  -- at the fiq of branch 0, in s₀, of the qif at s: 18, 23, 24
-  abbrev pub firstFiqRefusal : S → ℕ → S → ℕ
-  firstFiqRefusal s u s₀ = pick (M .isBeforeStart s₀) 18 (pick (leb limit u) 23 (pick (M .holds s 0 s₀) 0 24))
-
-  -- at the fiq of branch 1, in s₁: 18, 23, also where one node more would be above 511, and 24
-  abbrev pub secondFiqRefusal : S → ℕ → ℕ → S → S → ℕ
-  secondFiqRefusal s n u s₀ s₁ =
-      pick (M .isBeforeStart s₁) 18
-      (pick (leb limit u) 23
-      (pick (ltb 510 n) 23
-      (pick (M .holds s 1 s₁)
-      (pick (M .same (M .after s s₀) (M .after s s₁)) 0 24) 24)))
-
-  -- a qif at s, over what a branch does: branch 0, and branch 1 from the same state
+  -- A qif at s, with n nodes made and u cycles used, over what a branch does: branch 0, and branch 1 from the same state. At each of
+  -- its words 23 comes where the limit is reached, at the qif also where two nodes more would be above 511, at branch 1's fiq where one would
   unfoldable pub forkBy : (ℕ → ℕ → S → Outcome S) → ℕ → ℕ → S → Forks S
   forkBy branch n u s =
-      unless (qifRefusal n u)
+      refuse (leb limit u) (failed 23)
+      (refuse (ltb 509 n) (failed 23)
       (byOutcome (branch (n + 2) (u + 1) (M .on (M .coined s 0))) failed λ a s₀.
-      unless (firstFiqRefusal s (u + 1 + used a) s₀)
+      refuse (M .isBeforeStart s₀) (failed 18)
+      (refuse (leb limit (u + 1 + used a)) (failed 23)
+      (refuse (not (M .holds s 0 s₀)) (failed 24)
       (byOutcome (branch (n + 2 + size a) (u + 1 + used a + 1) (M .on (M .coined s 1))) failed λ b s₁.
-      unless (secondFiqRefusal s (n + 2 + size a + size b) (u + 1 + used a + 1 + used b) s₀ s₁)
-      (forked a b (M .after s s₀))))
+      refuse (M .isBeforeStart s₁) (failed 18)
+      (refuse (leb limit (u + 1 + used a + 1 + used b)) (failed 23)
+      (refuse (ltb 510 (n + 2 + size a + size b)) (failed 23)
+      (refuse (not (M .holds s 1 s₁)) (failed 24)
+      (refuse (not (M .same (M .after s s₀) (M .after s s₁))) (failed 24)
+      (forked a b (M .after s s₀)))))))))))
 
   -- a branch, or where it is not inside one the whole walk, over what a qif does: p is the walk so far, from n nodes made and u cycles
   -- used. The first number is the words that may still be looked at: one more than the limit are enough, since each uses a cycle
@@ -73,10 +59,10 @@ module _ {S : Type 0} (M : Walkable S) (limit : ℕ) where
   walkBy qif inside (suc f) n u p s =
       byLook (M .look s)
       refused
-      (pick inside (refused 12) (ended p s))
-      (λ s₁. pick (ltb (u + used p) limit) (walkBy qif inside f n u (step p) s₁) (refused 23))
+      (refuse inside (refused 12) (ended p s))
+      (λ s₁. refuse (leb limit (u + used p)) (refused 23) (walkBy qif inside f n u (step p) s₁))
       (byForks (qif (n + size p) (u + used p) s) refused (λ a b s₁. walkBy qif inside f n u (fork p a b) s₁))
-      (pick inside (ended p s) (refused 17))
+      (refuse (not inside) (refused 17) (ended p s))
 
   -- a qif by the nesting that is left, and a branch, whose walk is no longer than the limit
   unfoldable pub forkAt : ℕ → ℕ → ℕ → S → Forks S

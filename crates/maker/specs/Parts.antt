@@ -1,11 +1,11 @@
 -- What the parts of the maker promise (src/look.rt, src/walk.rt): of registers, memory and table that they hold or are lent.
 use Prim.Native.Nat.{ℕ, zero, suc, _+_, _-_, _≤_, _<_}
 use mathlib.Core.Path.{_≡_}
-use mathlib.Core.Bool.{Bool, false, _&&_}
+use mathlib.Core.Bool.{Bool, false, not, _&&_}
 use mathlib.Core.List.{List}
 use lib.Dec.{eqb, ltb, leb}
 use lib.ListN.{getD, set}
-use Rattle.word.specs.Word.{pick}
+use Rattle.word.specs.Refusal.{refuse}
 use Rattle.qins.specs.Decode.{decode}
 use Rattle.step.specs.declared.Direction.the-variants.{Forward}
 use Rattle.step.specs.View.{View, sized}
@@ -93,10 +93,24 @@ ShownFork k w (forked a b x) v n u t r l z =
 abbrev pub heldOf : ℕ → ℕ → List ℕ → List ℕ → Bool
 heldOf a x l z = eqb a (coinIn l z) && eqb (getD l (coinIn l z) 0) x
 
-unfoldable pub firstFiqRefusalOf : ℕ → ℕ → ℕ → ℕ → ℕ → List ℕ → List ℕ → ℕ
-firstFiqRefusalOf k m limit a u l z = pick (isBeforeStart (viewAt k m l z)) 18 (pick (leb limit u) 23 (pick (heldOf a 0 l z) 0 24))
+-- the number that refuses: at the qif, with n nodes made and u cycles used
+unfoldable pub qifRefusalOf : ℕ → ℕ → ℕ → ℕ
+qifRefusalOf limit n u = refuse (leb limit u) 23 (refuse (ltb 509 n) 23 0)
 
--- e: registers and memory are the same
+-- at the fiq of branch 0
+unfoldable pub firstFiqRefusalOf : ℕ → ℕ → ℕ → ℕ → ℕ → List ℕ → List ℕ → ℕ
+firstFiqRefusalOf k m limit a u l z =
+    refuse (isBeforeStart (viewAt k m l z)) 18
+    (refuse (leb limit u) 23
+    (refuse (not (heldOf a 0 l z)) 24
+    0))
+
+-- at the fiq of branch 1; e: registers and memory are the same
 unfoldable pub secondFiqRefusalOf : ℕ → ℕ → ℕ → ℕ → ℕ → ℕ → List ℕ → List ℕ → Bool → ℕ
 secondFiqRefusalOf k m limit a n u l z e =
-    pick (isBeforeStart (viewAt k m l z)) 18 (pick (leb limit u) 23 (pick (ltb 510 n) 23 (pick (heldOf a 1 l z) (pick e 0 24) 24)))
+    refuse (isBeforeStart (viewAt k m l z)) 18
+    (refuse (leb limit u) 23
+    (refuse (ltb 510 n) 23
+    (refuse (not (heldOf a 1 l z)) 24
+    (refuse (not e) 24
+    0))))

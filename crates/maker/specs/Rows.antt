@@ -23,7 +23,7 @@ pub record Row : Type 0 where
 abbrev pub nines : ℕ → List ℕ
 nines n = replicate n 9
 
--- refusal, cycles, N and node; then the words of the nodes and of one node behind them
+-- refusal, cycles, N and node; then the words of the nodes and of one node after them
 abbrev pub observed : Row → List ℕ
 observed x =
     let lent = machineOf (x .state) (x .memory) (nines (x .table)) in
@@ -46,7 +46,7 @@ abbrev pub row : ℕ → ℕ → List ℕ → ℕ → List ℕ → Row
 row a b l limit shows =
     record { state = at a b 0 (length l) 0 l; memory = l; limit = limit; table = 4599; scratch = 16 * length l; shows = shows }
 
--- with a data word behind it
+-- with a data word after it
 abbrev pub dataRow : ℕ → ℕ → ℕ → List ℕ → ℕ → ℕ → List ℕ → Row
 dataRow a b c l word limit shows =
     record { state = at a b c (length l) 0 (l ++ word ∷ []); memory = l ++ word ∷ []; limit = limit; table = 4599; scratch = 16 * (length l + 1); shows = shows }
@@ -61,7 +61,7 @@ lent n t s shows =
 abbrev pub refusedBy : ℕ → List ℕ
 refusedBy n = n ∷ 0 ∷ 0 ∷ 5 ∷ replicate 9 0
 
--- accepted, at node 1, with zeros behind the nodes
+-- accepted, at node 1, with zeros after the nodes
 abbrev pub made : ℕ → ℕ → List ℕ → List ℕ
 made c n l = 0 ∷ c ∷ n ∷ 1 ∷ l ++ replicate 9 0
 
@@ -91,7 +91,7 @@ unevenTable =
     ∷ 0 ∷ 0 ∷ 0 ∷ 0 ∷ 0 ∷ 0 ∷ 0 ∷ 1 ∷ 0
     ∷ []
 
--- the same with coin 0 waiting; a uni and a unib in the branch of coin 1; behind the fiq an ldr that needs r1 as it was
+-- the same with coin 0 waiting; a uni and a unib in the branch of coin 1; after the fiq an ldr that needs r1 as it was
 abbrev pub gates : List ℕ
 gates = 0x1A000000 ∷ 0x18400000 ∷ 0x06400003 ∷ 0x20500100 ∷ 0x21560200 ∷ 0x06400003 ∷ 0x19400000 ∷ 0x10640000 ∷ 0x1B000000 ∷ []
 
@@ -177,7 +177,7 @@ rows =
     ∷ row 0 0 (0x1A000000 ∷ 0x18400000 ∷ 0x19500000 ∷ 0x1B000000 ∷ []) 2 (refusedBy 23)
     ∷ row 0 0 (0x1A000000 ∷ 0x18400000 ∷ 0x19500000 ∷ 0x1B000000 ∷ []) 3 (refusedBy 24)
     ∷ row 0 0 (0x1A000000 ∷ 0x18400000 ∷ 0x13540000 ∷ 0x13450000 ∷ 0x19500000 ∷ 0x1B000000 ∷ []) 5 (refusedBy 24)
-    -- pc behind the code, no instruction, and an exchange with a code word
+    -- pc past the code, no instruction, and an exchange with a code word
     ∷ row 0 0 (0x1A000000 ∷ []) 9 (refusedBy 11)
     ∷ row 0 0 (0x1A000000 ∷ 0 ∷ []) 9 (refusedBy 13)
     ∷ row 0 0 (0x1A000000 ∷ 0x01500000 ∷ []) 9 (refusedBy 15)

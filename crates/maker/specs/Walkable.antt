@@ -18,8 +18,8 @@ pub record Walkable (S : Type 0) : Type 0 where
   pub on : S → S
   -- the fiq of the second state names the register of the qif at the first, and it holds the coin
   pub holds : S → ℕ → S → Bool
-  -- behind the fiq of the second state, with the register's word from the qif at the first
+  -- after the fiq of the second state, with the register's word from the qif at the first
   pub after : S → S → S
   pub same : S → S → Bool
-  -- 18: the word behind the one at pc is start
+  -- 18: the word after the one at pc is start
   pub isBeforeStart : S → Bool

@@ -4,7 +4,7 @@ ghost use mathlib.Core.Bool.{false};
 ghost use Prim.Native.Nat.{_*_, _≤_};
 ghost use lib.ListN.{length};
 ghost use Rattle.maker.specs.Parts.{Sized};
-ghost use Rattle.machine.specs.Machine.{machineOf};
+ghost use Rattle.machine.specs.Lent.{atEntry, atExit};
 ghost use Rattle.maker.specs.Make.{mostWords, scratchWords, walkOver, canBegin, refusalOf, madeAs, withTable, answerOf, drawnBy, MakePromise};
 
 mod copy;
@@ -73,7 +73,7 @@ impl Made {
 
 // pc is at start, there is no table yet and no wait, and what is lent is long enough.
 fn can_begin(r: Record, mem: &[u32], table: &[u32], scratch: &[u32]) -> bool
-    ensures { λ a. ⌜ a ≡ canBegin (machineOf r (now (mem .entry)) (now (table .entry))) (now (scratch .entry)) ⌝ }
+    ensures { λ a. ⌜ a ≡ canBegin (atEntry r mem table) (now (scratch .entry)) ⌝ }
 {
     let regs = r.regs;
     let pc = word_of(&regs, 0);
@@ -84,10 +84,15 @@ fn can_begin(r: Record, mem: &[u32], table: &[u32], scratch: &[u32]) -> bool
 
 // 10 or 22, else 0.
 fn refusal_of(r: Record, mem: &[u32], table: &[u32], scratch: &[u32]) -> u32
-    ensures { λ a. ⌜ a ≡ refusalOf (machineOf r (now (mem .entry)) (now (table .entry))) (now (scratch .entry)) ⌝ }
+    ensures { λ a. ⌜ a ≡ refusalOf (atEntry r mem table) (now (scratch .entry)) ⌝ }
 {
-    let begins = can_begin(r, mem, table, scratch);
-    word::choose(r.has_bad_sizes(mem, table), 10, word::choose(begins, 0, 22))
+    if r.has_bad_sizes(mem, table) {
+        return 10;
+    }
+    if !can_begin(r, mem, table, scratch) {
+        return 22;
+    }
+    0
 }
 
 // The walk from node 1 over exactly M words of memory, which are left as they were, and a table of zeros; zeros
@@ -142,7 +147,7 @@ fn at_node_one(r: Record, n: u32) -> Record
 
 // Makes the table of the program in mem, in at most limit cycles walked.
 pub fn make(r: Record, limit: u32, mem: &mut [u32], table: &mut [u32], scratch: &mut [u32]) -> Made
-    ensures { λ a. ⌜ MakePromise (machineOf r (now (mem .entry)) (now (table .entry))) limit (now (scratch .entry)) (a .refusal) (a .cycles) (machineOf (a .state) (now (mem .exit)) (now (table .exit))) (now (scratch .exit)) ⌝ }
+    ensures { λ a. ⌜ MakePromise (atEntry r mem table) limit (now (scratch .entry)) (a .refusal) (a .cycles) (atExit (a .state) mem table) (now (scratch .exit)) ⌝ }
 {
     let refusal = refusal_of(r, mem, table, scratch);
     if refusal != 0 {

@@ -60,7 +60,7 @@ pub(crate) fn coin_at(m: u32, regs: &[u32], mem: &[u32]) -> usize
     coin_of(kind_of(word_at(mem, m, look(regs, 0))))
 }
 
-// 18: the word behind the one at pc is start.
+// 18: the word after the one at pc is start.
 pub(crate) fn is_before_start(k: u32, m: u32, regs: &[u32], mem: &[u32]) -> bool
     requires { ⌜ length (now mem) ≡ m ⌝ }
     ensures { λ r. ⌜ r ≡ isBeforeStart (viewAt k m (now (regs .entry)) (now (mem .entry))) ⌝ }

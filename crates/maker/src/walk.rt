@@ -6,9 +6,9 @@ ghost use Prim.Native.Nat.{_+_, _-_, _≤_, _<_};
 ghost use lib.ListN.{length, take};
 ghost use Rattle.word.specs.Lists.{same};
 ghost use Rattle.maker.specs.Walk.{linked};
-ghost use Rattle.maker.specs.Making.{qifRefusal, branchAt, forkAt};
+ghost use Rattle.maker.specs.Making.{branchAt, forkAt};
 ghost use Rattle.maker.specs.Idle.{machine};
-ghost use Rattle.maker.specs.Parts.{viewAt, entered, left, heldOf, Sized, Room, refusedBy, walkedAt, Shown, ShownFork, firstFiqRefusalOf, secondFiqRefusalOf};
+ghost use Rattle.maker.specs.Parts.{viewAt, entered, left, heldOf, Sized, Room, refusedBy, walkedAt, Shown, ShownFork, qifRefusalOf, firstFiqRefusalOf, secondFiqRefusalOf};
 use crate::Seen;
 use crate::Walked;
 use crate::copy::copy;
@@ -73,7 +73,7 @@ fn leave(at: Walked, a: usize, old: u32) -> [u32; 16]
 // ---- the tests of a qif
 
 fn qif_refusal(limit: u32, from: Walked) -> u32
-    ensures { λ r. ⌜ r ≡ qifRefusal machine limit (from .nodes) (from .used) ⌝ }
+    ensures { λ r. ⌜ r ≡ qifRefusalOf limit (from .nodes) (from .used) ⌝ }
 {
     if limit <= from.used {
         return 23;
@@ -106,10 +106,13 @@ fn first_fiq_refusal(k: u32, m: u32, limit: u32, a: usize, at: Walked, mem: &[u3
     if limit <= at.used {
         return 23;
     }
-    if holds(m, a, 0, at, mem) { 0 } else { 24 }
+    if !holds(m, a, 0, at, mem) {
+        return 24;
+    }
+    0
 }
 
-// The two branches stand the same behind their fiq: registers and memory, that of branch 0 being saved.
+// The two branches stand the same after their fiq: registers and memory, that of branch 0 being saved.
 fn agree(a: usize, old: u32, first: Walked, second: Walked, mem: &[u32], saved: &[u32]) -> bool
     requires { ⌜ length (now mem) ≤ length (now saved) ⌝ }
     ensures { λ r.
@@ -144,12 +147,13 @@ fn second_fiq_refusal(
     if 510 < at.nodes {
         return 23;
     }
-    if holds(m, a, 1, at, mem) {
-        if agreed {
-            return 0;
-        }
+    if !holds(m, a, 1, at, mem) {
+        return 24;
     }
-    24
+    if !agreed {
+        return 24;
+    }
+    0
 }
 
 // ---- the links of a qif
@@ -250,7 +254,7 @@ pub(crate) fn branch(
 }
 
 // The memory of the start is saved in the front of the scratch, and that of branch 0's end in its place;
-// the branches have the scratch behind it.
+// the branches have the scratch after it.
 pub(crate) fn fork(
     k: u32,
     m: u32,

@@ -9,9 +9,7 @@ use lib.ListN.{length, getD}
 use denote.Ref.{now}
 use borrow.Author.Needs.{needs}
 use Rattle.maker.specs.declared.Walked.{Walked}
-use Rattle.maker.specs.Parts.{Room, walkedAt, coinIn, entered, left, firstFiqRefusalOf, secondFiqRefusalOf}
-use Rattle.maker.specs.Making.{qifRefusal}
-use Rattle.maker.specs.Idle.{machine}
+use Rattle.maker.specs.Parts.{Room, walkedAt, coinIn, entered, left, qifRefusalOf, firstFiqRefusalOf, secondFiqRefusalOf}
 use Rattle.word.specs.Lists.{same}
 use Rattle.maker.proofs.Copies.{put-back, told-same}
 use Rattle.maker.proofs.Rooms.{fits, as-long, deeper, sized}
@@ -164,7 +162,7 @@ room t c =
 is-open : (t : ℕ) (c : fork-lts.Else2 (fork-said t) (fork-at t) fork.Post) →
     let start′ = begin-of t (c .before .before) in
     let g = start′ .args in
-    qifRefusal machine (g .limit) (g .from .nodes) (g .from .used) ≡ 0
+    qifRefusalOf (g .limit) (g .from .nodes) (g .from .used) ≡ 0
 is-open t c =
     let qif-refusal′ = c .before in
     sym (qif-refusal′ .qif-refusal .ensures) ∙ c .if2 .left
