@@ -15,6 +15,7 @@ use Rattle.links.specs.declared.Checked.{Checked}
 use Rattle.links.specs.Check.{returns, childrenReturn, unpaired, checkOf, checkNodeOf}
 use Rattle.links.specs.Claims.{Paired}
 use Rattle.links.proofs.Decides.{both, either, equal, node}
+use Rattle.word.proofs.Refusal.{refuse-false}
 use Rattle.links.proofs.OneNode.{links-decide}
 use Rattle.links.proofs.NodeByNode.{before-nodes, node-by-node}
 use Rattle.maker.specs.Walk.{Walk, size, ending, put, pair, linked, drawn, forkSize, forkLinked, lack}
@@ -249,10 +250,10 @@ made-zeros p t i h l z k =
 
 pub node-passes : (x : Machine) (v : ℕ) → wrongSizes x ≡ false → 0 < v → v ≤ x .state .n → unpaired (stateOf x .links) (x .state .n) v ≡ false
     → checkNodeOf x v ≡ 0
-node-passes x v o p q h = links-decide x v o p q ∙ rw h
+node-passes x v o p q h = links-decide x v o p q ∙ refuse-false _ 8 0 h
 
 pub check-passes : (x : Machine) → ((v : ℕ) → 0 < v → v ≤ x .state .n → unpaired (stateOf x .links) (x .state .n) v ≡ false) → checkOf x .refusal ≡ 8 → ⊥
 check-passes x h e =
     let o = before-nodes .passed x .0 (omega (arith, e)) in
-    let z = node-by-node .good x o .1 (λ v p q. links-decide x v (o .sizes) p q ∙ rw (h v p q)) in
+    let z = node-by-node .good x o .1 (λ v p q. node-passes x v (o .sizes) p q (h v p q)) in
     omega (arith, e, ap (λ (c : Checked). c .refusal) z)

@@ -3,10 +3,10 @@
 use Prim.Native.Nat.{ℕ, _<_, _≤_}
 use mathlib.Core.Path.{_≡_}
 use mathlib.Core.Logic.{_≢_}
-use mathlib.Core.Bool.{Bool}
+use mathlib.Core.Bool.{Bool, not}
 use mathlib.Core.List.{List}
 use lib.Dec.{eqb}
-use Rattle.word.specs.Word.{pick}
+use Rattle.word.specs.Refusal.{refuse}
 use Rattle.step.specs.declared.Direction.the-variants.{Forward}
 use Rattle.machine.specs.Machine.{zeros, Machine, machineOf}
 use Rattle.machine.specs.Batch.{BatchPromise}
@@ -36,7 +36,10 @@ NoneLeft =
 
 -- The exit status: 3 where not all was written, 1 after a refused load.
 abbrev pub statusOf : (refusal : ℕ) (written : Bool) → ℕ
-statusOf refusal written = pick written (pick (eqb refusal 0) 0 1) 3
+statusOf refusal written =
+    refuse (not written) 3
+    (refuse (not (eqb refusal 0)) 1
+    0)
 
 -- The status of a run is that of a refusal and of whether all was written; which ones, no contract can say, since the
 -- file is read and the answer written outside of any.

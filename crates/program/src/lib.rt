@@ -8,7 +8,6 @@ use libc::STDIN_FILENO;
 use libc::STDOUT_FILENO;
 use machine::Batch;
 use machine::Record;
-use word::choose;
 
 // The most turns that are made.
 const LIMIT: u32 = 1000000;
@@ -109,7 +108,13 @@ fn print_outcome(o: Outcome) -> bool {
 fn status(refusal: u32, written: bool) -> u32
     ensures { λ r. ⌜ r ≡ statusOf refusal written ⌝ }
 {
-    choose(written, choose(refusal == 0, 0, 1), 3)
+    if !written {
+        return 3;
+    }
+    if refusal != 0 {
+        return 1;
+    }
+    0
 }
 
 fn refuse_arguments() -> u32
