@@ -110,8 +110,9 @@ fn land(a: Attempt, new: u32, at: Status, regs: &[u32], mem: &[u32]) -> Attempt
     }
 }
 
-// The refusals around the word's own attempt a, but for 21, which the run sees to; old is pc before it
-// shrank, new is pc after the turn.
+// The refusals around the word's own attempt a, except 21, which the run sees to; old is pc before it
+// shrank, new is pc after the turn. The last ones are found first: nested as in the definition they cost
+// every turn of a run three instructions more.
 fn judge(
     d: Direction,
     old: u32,
@@ -131,26 +132,15 @@ fn judge(
     let finish = word_at(mem, at.m, pc) == qins::FINISH;
     match d {
         Direction::Forward => {
-            let rest = land(a, new, at, regs, mem);
-            refused_if(
-                sizes,
-                10,
-                refused_if(!(pc < at.k), 11, refused_if(finish, 12, rest)),
-            )
+            let from_12 = refused_if(finish, 12, land(a, new, at, regs, mem));
+            refused_if(sizes, 10, refused_if(!(pc < at.k), 11, from_12))
         }
         Direction::Back => {
             let ready = at.qifw == 0;
+            let from_18 = refused_if(word::both(ready, finish), 18, a);
+            let from_11 = refused_if(!(pc < at.k), 11, from_18);
             let start = word::both(ready, is_start(at, mem, old));
-            let end = word::both(ready, finish);
-            refused_if(
-                sizes,
-                10,
-                refused_if(
-                    start,
-                    12,
-                    refused_if(!(pc < at.k), 11, refused_if(end, 18, a)),
-                ),
-            )
+            refused_if(sizes, 10, refused_if(start, 12, from_11))
         }
     }
 }

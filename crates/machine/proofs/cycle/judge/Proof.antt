@@ -17,10 +17,11 @@ judge-spec =
     let a = l .before .before .before in
     let e = l .before .enum-told .given .1 in
     rw e
-    (simp (not-refused, c .refused-if3 .ensures, c .before .refused-if2 .ensures, c .before .before .refused-if .ensures, l .land .ensures (rw e at h), a .word-at .ensures, a .before .look .ensures, a .before .before .are-bad-sizes .ensures)))
+    (simp (not-refused, c .refused-if3 .ensures, c .before .refused-if2 .ensures, c .before .before .before .refused-if .ensures, l .land .ensures (rw e at h), a .word-at .ensures, a .before .look .ensures, a .before .before .are-bad-sizes .ensures)))
     (λ c h.
-    let s = c .before .before .before .before .before in
-    let b = s .before .before in
-    let a = b .before .before .before .before in
-    rw (b .before .before .enum-told2 .given .1)
-    (simp (not-refused, c .refused-if7 .ensures, c .before .refused-if6 .ensures, c .before .before .refused-if5 .ensures, c .before .before .before .refused-if4 .ensures, s .both2 .ensures, s .before .both .ensures, b .is-start .ensures, a .word-at .ensures, a .before .look .ensures, a .before .before .are-bad-sizes .ensures))))
+    let f = c .before .before .before .before in
+    let e = f .before .before in
+    let b = e .before .before .before in
+    let a = b .before .before in
+    rw (b .enum-told2 .given .1)
+    (simp (not-refused, c .refused-if7 .ensures, c .before .refused-if6 .ensures, c .before .before .both2 .ensures, c .before .before .before .is-start .ensures, f .refused-if5 .ensures, e .refused-if4 .ensures, e .before .both .ensures, a .word-at .ensures, a .before .look .ensures, a .before .before .are-bad-sizes .ensures))))
