@@ -8,7 +8,8 @@ use lib.Seq.{getD-take}
 use lib.Dec.{ltb, leb}
 use borrow.Author.Tests.{ltb-true, ltb-false, leb-true, leb-false, le-ltb, le-leb, lt-leb, not-true, not-false}
 use Rattle.word.specs.Refusal.{refuse}
-use Rattle.word.proofs.Refusal.{refuse-true, refuse-false, refuse-passed, refuse-refused, refuse-neither}
+use Rattle.word.proofs.Words.{pick-first, pick-second}
+use Rattle.word.proofs.Refusal.{refuse-passed, refuse-refused, refuse-neither}
 use Rattle.qins.specs.Decode.{isInstruction}
 use Rattle.step.specs.Table.{isNode}
 use Rattle.machine.specs.declared.Record.{Record}
@@ -133,8 +134,8 @@ module _ (x : Machine) where
       let f : Found (badLinks x) 1 (r .n) p = rw (← q) found-node in
       let l = f .passed .least in
       record {
-        bad = links-decide x p (o .sizes) (omega arith) h ∙ refuse-true _ 8 0 (f .holds (omega arith));
-        lower = λ v k m. links-decide x v (o .sizes) k (omega arith) ∙ refuse-false _ 8 0 (f .passed .below v (omega arith) m);
+        bad = links-decide x p (o .sizes) (omega arith) h ∙ rw (f .holds (omega arith));
+        lower = λ v k m. links-decide x v (o .sizes) k (omega arith) ∙ rw (f .passed .below v (omega arith) m);
       }
 
   -- what a call on a node tells
@@ -149,8 +150,8 @@ module _ (x : Machine) where
   found-at w p l m below at =
       let f : Found (badLinks x) 1 (r .n) p =
       record {
-        passed = record { least = omega arith; most = omega arith; below = λ v h k. refuse-passed (badLinks x v) _ _ _ (sym (links-decide x v w (omega arith) (omega arith)) ∙ below v (omega arith) k) (λ e. omega (arith, e)) .0 };
-        holds = λ h. refuse-refused (badLinks x p) _ _ _ (sym (links-decide x p w l (omega arith)) ∙ at (omega arith)) (λ e. omega (arith, e)) .0;
+        passed = record { least = omega arith; most = omega arith; below = λ v h k. pick-second (badLinks x v) (λ e. omega (arith, e)) (sym (links-decide x v w (omega arith) (omega arith)) ∙ below v (omega arith) k) .0 };
+        holds = λ h. pick-first (badLinks x p) (λ e. omega (arith, e)) (sym (links-decide x p w l (omega arith)) ∙ at (omega arith)) .0;
       } in
       found-is _ 1 (r .n) p f
 
@@ -165,7 +166,7 @@ module _ (x : Machine) where
   good-told o e v h k =
       let t = refuse-passed (leb (badNode x) (r .n)) _ _ _ (sym (nodes-decide o) ∙ e) (λ e. omega (arith, number e)) in
       let l = leb-false (badNode x) (r .n) (t .0) in
-      links-decide x v (o .sizes) h k ∙ refuse-false _ 8 0 (found-node .passed .below v (omega arith) (omega arith))
+      links-decide x v (o .sizes) h k ∙ rw (found-node .passed .below v (omega arith) (omega arith))
 
   good-all : InOrder x → ((v : ℕ) → 0 < v → v ≤ r .n → checkNodeOf x v ≡ 0) → checkOf x ≡ checkedAs 0 0
   unfolding refuse

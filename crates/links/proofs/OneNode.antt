@@ -5,6 +5,7 @@ use Prim.Native.Nat.{ℕ, _<_, _≤_, min}
 use native.Mathlib.Omega.{arith}
 use lib.ListN.{length, take, length-take}
 use borrow.Author.Tests.{not-true}
+use Rattle.word.specs.Word.{pick}
 use Rattle.word.specs.Refusal.{refuse}
 use Rattle.word.proofs.Refusal.{refuse-passed, refuse-refused, refuse-neither}
 use Rattle.step.specs.Table.{isNode, link}
@@ -38,9 +39,13 @@ module _ (x : Machine) (v : ℕ) where
       go false e = rw (w, e)
 
   -- of a node of the table its links decide
-  pub links-decide : wrongSizes x ≡ false → 0 < v → v ≤ n → checkNodeOf x v ≡ refuse (badLinks x v) 8 0
+  pub links-decide : wrongSizes x ≡ false → 0 < v → v ≤ n → checkNodeOf x v ≡ pick (badLinks x v) 8 0
   unfolding refuse
-  links-decide w h k = rw (w, node n v .1 (h, k))
+  links-decide w h k = rw (w, node n v .1 (h, k)) (go (badLinks x v))
+    where
+      go : (b : Bool) → _≡_ {A = ℕ} (refuse b 8 0) (pick b 8 0)
+      go true = refl
+      go false = refl
 
 pub before-links : BeforeLinks
 unfolding refuse

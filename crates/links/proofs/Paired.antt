@@ -8,8 +8,8 @@ use native.Mathlib.Omega.{arith}
 use lib.ListN.{take}
 use lib.Seq.{getD-take}
 use borrow.Author.Tests.{not-false}
-use Rattle.word.specs.Refusal.{refuse}
-use Rattle.word.proofs.Refusal.{refuse-true, refuse-false, refuse-passed, refuse-refused}
+use Rattle.word.specs.Word.{pick}
+use Rattle.word.proofs.Words.{pick-first, pick-second}
 use Rattle.step.specs.Table.{nodeWords, tableWords, fc, lc, cf, cl, nx, pr, link}
 use Rattle.step.proofs.Views.{link-node}
 use Rattle.machine.specs.Machine.{Machine, wrongSizes}
@@ -60,21 +60,21 @@ module _ (x : Machine) (v : ℕ) (w : wrongSizes x ≡ false) (h : 0 < v) (k : v
   links-tell : (badLinks x v ≡ false) ↔ Good
   links-tell = all-paired (x .table) (x .state .n) v h k
 
-  decided : checkNodeOf x v ≡ refuse (badLinks x v) 8 0
+  decided : checkNodeOf x v ≡ pick (badLinks x v) 8 0
   decided = links-decide x v w h k
 
   good-links : (checkNodeOf x v ≡ 0) ↔ Good
   good-links =
-      (λ e. links-tell .0 (refuse-passed (badLinks x v) _ _ _ (sym decided ∙ e) (λ e. omega (arith, e)) .0), λ p. decided ∙ refuse-false _ 8 0 (links-tell .1 p))
+      (λ e. links-tell .0 (pick-second (badLinks x v) (λ e. omega (arith, e)) (sym decided ∙ e) .0), λ p. decided ∙ rw (links-tell .1 p))
 
   bad-links : (checkNodeOf x v ≡ 8) ↔ (Good → ⊥)
   bad-links = (
-    λ e p. true≢false (sym (refuse-refused (badLinks x v) _ _ _ (sym decided ∙ e) (λ e. omega (arith, e)) .0) ∙ links-tell .1 p),
+    λ e p. true≢false (sym (pick-first (badLinks x v) (λ e. omega (arith, e)) (sym decided ∙ e) .0) ∙ links-tell .1 p),
     λ f. go f (badLinks x v) refl,
   )
     where
       go : (Good → ⊥) → (b : Bool) → badLinks x v ≡ b → checkNodeOf x v ≡ 8
-      go f true e = decided ∙ refuse-true _ 8 0 e
+      go f true e = decided ∙ rw e
       go f false e = absurd (f (links-tell .0 e))
 
 pub on-links : OnLinks
