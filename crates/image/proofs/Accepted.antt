@@ -2,18 +2,19 @@
 use mathlib.Core.Path.{_≡_, refl, sym, _∙_}
 use mathlib.Core.Bool.{Bool, true, false, not, true≢false}
 use mathlib.Core.List.{List}
-use Prim.Native.Nat.{ℕ, _-_, _*_, _<_, _≤_}
+use Prim.Native.Nat.{ℕ, _-_, _*_, _≤_}
 use native.Mathlib.Omega.{arith}
 use lib.Dec.{eqb, ltb, leb}
 use lib.ListN.{length}
-use borrow.Author.Tests.{leb-true, ltb-true, ltb-false, eqb-true, eq-eqb, not-false}
+use borrow.Author.Tests.{leb-true, ltb-false, eqb-true, eq-eqb, not-false}
 use Rattle.word.specs.Refusal.{refuse}
 use Rattle.word.proofs.Words.{and-true}
 use Rattle.word.proofs.Refusal.{refuse-passed}
 use Rattle.step.specs.Table.{tableWords}
-use Rattle.step.specs.Sizes.{maxWords, maxNodes, inRange, isEnough, badSizes}
-use Rattle.step.proofs.Views.{view-long}
-use Rattle.machine.specs.Machine.{statusOf, Machine, stateOf, wrongSizes}
+use Rattle.step.specs.Sizes.{inRange, isEnough}
+use Rattle.step.proofs.BadSizes.{RightSizes}
+use Rattle.machine.specs.Machine.{statusOf, Machine, wrongSizes}
+use Rattle.machine.proofs.WrongSizes.{wrongSizes-right}
 use Rattle.image.specs.declared.trailer.Trailer.{Trailer}
 use Rattle.image.specs.Format.{newest, backOf}
 use Rattle.image.specs.Load.{badLength, hasLast, isCut, backBy, fileRefusal, loadRefusal, startOf}
@@ -61,43 +62,14 @@ load-accepted t s mem table h =
     let (a, b) = and-true (leb (t .state .m) (length mem)) (leb (tableWords (t .state .n)) (length table)) (not-false _ e) in
     record { passed = p; within = omega arith; memory = leb-true _ _ a; links = leb-true _ _ b }
 
--- sizes that are not wrong
-pub record Sized (x : Machine) : Type 0 where
-  pub range : inRange (statusOf (x .state)) ≡ true
-  pub some : 0 < x .state .k
-  pub code : x .state .k ≤ x .state .m
-  pub words : x .state .m ≤ maxWords
-  pub nodes : x .state .n ≤ maxNodes
-  pub memory : x .state .m ≤ length (x .memory)
-  pub links : tableWords (x .state .n) ≤ length (x .table)
-
-pub sized : (x : Machine) → wrongSizes x ≡ false → Sized x
-unfolding badSizes inRange
-sized x h =
-    let r = x .state in
-    let s = and-true (inRange (statusOf r)) _ (not-false _ h) in
-    let a = and-true (ltb 0 (r .k)) _ (s .0) in
-    let b = and-true (leb (r .k) (r .m)) _ (a .1) in
-    let d = and-true (leb (r .m) maxWords) (leb (r .n) maxNodes) (b .1) in
-    let e = and-true (leb (r .m) (length (stateOf x .words))) (leb (tableWords (r .n)) (length (stateOf x .links))) (s .1) in
-    record {
-      range = s .0;
-      some = ltb-true _ _ (a .0);
-      code = leb-true _ _ (b .0);
-      words = leb-true _ _ (d .0);
-      nodes = leb-true _ _ (d .1);
-      memory = leb-true _ _ (sym (view-long (x .memory) (r .m)) ∙ e .0);
-      links = leb-true _ _ (sym (view-long (x .table) (tableWords (r .n))) ∙ e .1);
-    }
-
 -- what save goes on with
 pub record Saving (x : Machine) (out : List ℕ) : Type 0 where
   pub right : wrongSizes x ≡ false
-  pub sizes : Sized x
+  pub sizes : RightSizes (statusOf (x .state)) (x .memory) (x .table)
   pub room : backOf newest (x .state) ≤ length out
 
 pub save-accepted : {x : Machine} {out : List ℕ} {n : ℕ} → SaveDecided x out n → n ≡ 0 → Saving x out
 save-accepted {x} {out} d z =
     let (w, p) = refuse-passed (wrongSizes x) _ _ _ (sym (d .answer) ∙ z) (λ e. omega (arith, e)) in
     let (r, _) = refuse-passed (ltb (length out) (backOf newest (x .state))) _ _ _ p (λ e. omega (arith, e)) in
-    record { right = w; sizes = sized x w; room = ltb-false _ _ r }
+    record { right = w; sizes = wrongSizes-right x w; room = ltb-false _ _ r }

@@ -24,7 +24,9 @@ use Rattle.image.specs.Claims.{Backs, Row, KindsFound, TakesBoth, Keeps,
 use Rattle.image.proofs.Bytes.{length-bytes, length-words, bytes-append, read-back, words-back}
 use Rattle.machine.proofs.Given.{words-take}
 use Rattle.image.proofs.Given.{words-cons, words-append}
-use Rattle.image.proofs.Accepted.{load-accepted, Sized, sized, save-accepted}
+use Rattle.step.proofs.BadSizes.{RightSizes}
+use Rattle.machine.proofs.WrongSizes.{wrongSizes-right}
+use Rattle.image.proofs.Accepted.{load-accepted, save-accepted}
 
 -- ---- lists
 
@@ -50,8 +52,8 @@ module _ (kind : Kind) (x : Machine) (row : Row kind) (v : Savable x) where
   abbrev s : State
   s = stateOf x
 
-  abbrev sizes : Sized x
-  sizes = sized x (v .sizes)
+  abbrev sizes : RightSizes (statusOf (x .state)) (x .memory) (x .table)
+  sizes = wrongSizes-right x (v .sizes)
 
   abbrev tail : List ℕ
   tail = tailWords kind r

@@ -2,7 +2,7 @@
 ghost use mathlib.Core.Path.{_≡_};
 ghost use mathlib.Core.List.{_++_};
 ghost use Prim.Native.Nat.{_*_, _^_, _<_, _≤_};
-ghost use lib.ListN.{length, take, drop};
+ghost use lib.ListN.{length, drop};
 ghost use Rattle.step.specs.Table.{tableWords};
 ghost use Rattle.machine.specs.Lent.{atEntry, atExit};
 ghost use Rattle.image.specs.Format.{newest, backOf, image};

@@ -20,7 +20,8 @@ use Rattle.links.specs.Claims.{FirstBadWord, InOrder, BeforeNodes, First
 use Rattle.links.proofs.Search.{Found, found, found-is}
 use Rattle.links.proofs.Decides.{node}
 use Rattle.links.proofs.OneNode.{links-decide}
-use Rattle.links.proofs.Answers.{checkable, check-sizes, check-code}
+use Rattle.links.proofs.Answers.{check-sizes, check-code}
+use Rattle.machine.proofs.WrongSizes.{wrongSizes-right}
 
 -- ---- answers of the check
 
@@ -53,7 +54,7 @@ module _ (x : Machine) where
   -- it is told by the lent memory's word, and tells of it
   module _ (w : wrongSizes x ≡ false) (a : ℕ) (h : a < r .k) where
     same-word : getD (stateOf x .words) a 0 ≡ getD (x .memory) a 0
-    same-word = let s = checkable x w .code in getD-take (r .m) (x .memory) a 0 (omega arith)
+    same-word = let s = wrongSizes-right x w .code in getD-take (r .m) (x .memory) a 0 (omega arith)
 
     tested : {b : Bool} → isInstruction (getD (x .memory) a 0) ≡ b → isBad a ≡ not b
     tested e = ap not (ap isInstruction same-word ∙ e)

@@ -4,7 +4,6 @@ use mathlib.Core.Bool.{Bool, true, false}
 use mathlib.Core.List.{[], _∷_}
 use Prim.Native.Nat.{ℕ}
 use lib.Dec.{eqb}
-use lib.IntN.{pos}
 use borrow.Author.Tests.{eqb-true}
 use Rattle.qins.specs.Decode.{decode, operation, line, finishWord, kind}
 use Rattle.step.specs.declared.Direction.the-variants.{Forward}

@@ -4,27 +4,27 @@ use mathlib.Core.Bool.{Bool, true, false, not, _&&_, true≢false}
 use mathlib.Core.List.{List}
 use Prim.Native.Nat.{ℕ, _^_, _<_, _≤_}
 use native.Mathlib.Omega.{arith}
-use lib.Dec.{eqb, leb}
+use lib.Dec.{eqb}
 use lib.ListN.{length, getD, length-set}
 use lib.Seq.{getD-set-same, getD-set-other}
-use borrow.Author.Tests.{ltb-true, leb-true, eqb-true}
+use borrow.Author.Tests.{ltb-true, eqb-true}
 use Rattle.word.specs.Word.{pick}
-use Rattle.word.proofs.Words.{and-true, not-not, pick-word}
+use Rattle.word.proofs.Words.{not-not, pick-word}
 use Rattle.qins.specs.Decode.{decode, operation, line, startWord, finishWord}
 use Rattle.qins.proofs.Formed.{decode-formed}
-use Rattle.step.specs.declared.Status.{Status}
 use Rattle.step.specs.declared.Direction.{Direction}
 use Rattle.step.specs.declared.Direction.the-variants.{Forward, Back}
 use Rattle.step.specs.declared.Effect.{Effect}
 use Rattle.step.specs.declared.Attempt.{Attempt}
 use Rattle.step.specs.declared.Attempt.the-variants.{Refused, Does}
-use Rattle.step.specs.View.{View, Bounds, reg, flip}
+use Rattle.step.specs.View.{View, Bounds, flip}
 use Rattle.word.specs.Refusal.{refuse}
 use Rattle.step.specs.Step.{shifted, marked, written, performed, isReady, attempt}
-use Rattle.step.proofs.Sized.{SameSizes, marked-sizes, written-long, stored-long}
+use Rattle.step.proofs.Sized.{marked-sizes, written-long, stored-long}
+use Rattle.step.proofs.BadSizes.{badSizes-right, badSizes-same}
 use Rattle.step.proofs.Kept.{Kept, performed-kept}
 use Rattle.step.proofs.Undo.{Fair, Undone, undone, refused-no, inside, passed, set-back, words-set, shifted-word, shifted-back}
-use Rattle.step.specs.Sizes.{inRange, badSizes}
+use Rattle.step.specs.Sizes.{badSizes}
 use Rattle.machine.specs.Turn.{pc, br, atPc, stride, movedPc, fromPc, toPc, from, newPc, to, isCode, starts, finishes, landed, judged, executed, planned, turned}
 
 -- ---- pc's moves
@@ -174,16 +174,6 @@ accepts t Back s g a = rw (a .sizes, a .free, a .code, a .running, and-false (is
 
 -- ---- the law
 
-room-of : (t : List ℕ) (at : Status) (l : List ℕ) → badSizes at l t ≡ false → at .m ≤ length l
-unfolding badSizes
-room-of t at l h =
-    let enough = and-true (inRange at) _ (not-not _ h) .1 in
-    leb-true _ _ (and-true (leb (at .m) (length l)) _ enough .0)
-
-pub same-sizes : (t : List ℕ) (at at′ : Status) (l l′ : List ℕ) → SameSizes at at′ → length l′ ≡ length l → badSizes at′ l′ t ≡ badSizes at l t
-unfolding badSizes inRange
-same-sizes t at at′ l l′ z e = rw (z .k, z .m, z .n, e)
-
 -- starting looks at the code alone
 same-start : (s : View) (l l′ : List ℕ) → ((j : ℕ) → j < s .at .k → getD l′ j 0 ≡ getD l j 0) → starting s l′ ≡ starting s l
 same-start s l l′ c = ap (λ (x : Bool). isReady (s .at) && x) (go (isCode (s .at) (pc s)) refl)
@@ -212,7 +202,7 @@ module _ (t : List ℕ) (d : Direction) (s : View) (g : Bounds s) (e : Effect) (
 
   back : Undone t d (decode (getD (s .memory) (pc before) 0)) before e
   back =
-      undone t before (bounds-from s g d) (room-of t (s .at) (s .memory) (a .sizes)) d (decode (getD (s .memory) (pc before) 0))
+      undone t before (bounds-from s g d) (badSizes-right (s .at) (s .memory) t (a .sizes) .memory) d (decode (getD (s .memory) (pc before) 0))
       (decode-formed (getD (s .memory) (pc before) 0)) (a .does)
 
   keeps : Kept before after
@@ -233,7 +223,7 @@ module _ (t : List ℕ) (d : Direction) (s : View) (g : Bounds s) (e : Effect) (
   accepted-back : Accepted t (flip d) (to d after) (back .by)
   accepted-back =
       record {
-        sizes = same-sizes t (s .at) (after .at) (s .memory) (after .memory) (marked-sizes e (s .at)) (stored-long e (before .regs) (s .memory)) ∙ a .sizes;
+        sizes = badSizes-same t (s .at) (after .at) (s .memory) (after .memory) (marked-sizes e (s .at)) (stored-long e (before .regs) (s .memory)) ∙ a .sizes;
         free =
             rw (edge-back d e (back .by) s (keeps .bounds) (back .home) whole)
             (same-start (edge d e s) (s .memory) (after .memory) (λ j h. keeps .code j (rw (sym (edge-k d e s)) h)) ∙ a .free);
@@ -270,4 +260,4 @@ turn-back t d last s {e} g h =
 
 -- and what it does to the memory is within the data that is there
 pub plan-fair : (t : List ℕ) (d : Direction) (last : Bool) (s : View) {e : Effect} → Bounds s → planned t d last s ≡ Does e → Fair e (s .at) × (s .at .m ≤ length (s .memory))
-plan-fair t d last s {e} g h = let a = accepted t d last s g h in (back t d s g e a .fair, room-of t (s .at) (s .memory) (a .sizes))
+plan-fair t d last s {e} g h = let a = accepted t d last s g h in (back t d s g e a .fair, badSizes-right (s .at) (s .memory) t (a .sizes) .memory)

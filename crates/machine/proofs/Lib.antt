@@ -15,3 +15,4 @@ pub mod Accesses
 pub mod Results
 pub mod Instruction
 pub mod Shown
+pub mod WrongSizes

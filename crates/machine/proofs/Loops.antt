@@ -15,6 +15,7 @@ use Rattle.step.specs.declared.Status.{Status}
 use Rattle.step.specs.declared.Direction.{Direction}
 use Rattle.step.specs.declared.Store.{Store}
 use Rattle.step.proofs.Sized.{SameSizes}
+use Rattle.step.proofs.BadSizes.{badSizes-same}
 use Rattle.machine.specs.Machine.{statusOf, updated, Machine, leftAs, atPosition, stateOf, wrongSizes, Bounded}
 use Rattle.machine.specs.Calls.{refusal, next}
 use Rattle.machine.specs.Position.{isLast, advanced}
@@ -26,7 +27,6 @@ use Rattle.machine.proofs.Claims.{same-status, refused-keeps, next-size
 use Rattle.machine.proofs.Room.{advance-none, Along, along, last-room}
 use Rattle.machine.proofs.Whole.{status-is, refusal-is, state-is, memory-is, last-refusal, last-stands}
 use Rattle.machine.proofs.Batches.{after-add, made-add, Ends, ends-refused, ends-none, ends-there, promises}
-use Rattle.machine.proofs.Inverse.{same-sizes}
 
 module _ (d : Direction) where
   -- the loop, after i turns from x, all of them made, that led to y
@@ -139,7 +139,7 @@ module _ {d : Direction} {n most : ℕ} {x : Machine} {at : Status} {regs mem : 
 
   -- the record's sizes are those that it began with
   wrong : wrongSizes y ≡ wrongSizes (leftAs x r mem)
-  wrong = same-sizes (stateOf y .links) (statusOf r) (statusOf (y .state)) (stateOf y .words) (stateOf y .words) (record { k = refl; m = refl; n = refl }) refl
+  wrong = badSizes-same (stateOf y .links) (statusOf r) (statusOf (y .state)) (stateOf y .words) (stateOf y .words) (record { k = refl; m = refl; n = refl }) refl
 
   pub full : most ≤ i → most < n → BatchPromise d n x i (lastRefusal (leftAs x r mem)) y
   full h l =

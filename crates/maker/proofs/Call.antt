@@ -3,14 +3,12 @@ use mathlib.Core.Path.{_≡_, refl, sym, ap, _∙_}
 use mathlib.Core.Bool.{Bool, true, false, not, _&&_}
 use mathlib.Core.List.{List, _++_}
 use Prim.Native.Nat.{ℕ, _*_, _<_, _≤_}
-use native.Mathlib.Omega.{arith}
-use lib.Dec.{eqb, ltb, leb}
-use lib.ListN.{length, getD, take, drop, take-append-drop, length-take}
+use lib.Dec.{eqb, leb}
+use lib.ListN.{length, getD, take, drop, take-append-drop}
 use lib.Seq.{length-take-le, drop-append-seam}
-use borrow.Author.Tests.{ltb-true, leb-true, eqb-true, ne-eqb, not-false}
+use borrow.Author.Tests.{leb-true, eqb-true, ne-eqb}
 use Rattle.word.specs.Word.{pick}
 use Rattle.word.specs.Refusal.{refuse}
-use Rattle.step.specs.Sizes.{inRange, badSizes}
 use Rattle.machine.specs.Turn.{starts}
 use Rattle.machine.specs.declared.Record.{Record}
 use Rattle.machine.specs.Machine.{statusOf, Machine, machineOf, leftAs, stateOf, wrongSizes}
@@ -18,7 +16,8 @@ use Rattle.maker.specs.declared.Made.{Made}
 use Rattle.maker.specs.Parts.{Sized}
 use Rattle.maker.specs.Make.{mostWords, walkOver, scratchWords, canBegin, refusalOf, outcomeOf, madeAs, answerOf, drawnBy, MakePromise}
 use Rattle.word.proofs.Words.{and-true, not-not}
-use Rattle.maker.proofs.Counts.{refuse-none}
+use Rattle.word.proofs.Refusal.{refuse-none}
+use Rattle.machine.proofs.WrongSizes.{wrongSizes-right}
 
 -- ---- what a start that is not refused gives
 
@@ -33,38 +32,26 @@ pub record Ready (x : Machine) (scratch : List ℕ) : Type 0 where
   pub room : 16 * x .state .m ≤ length scratch
   pub room-front : 16 * x .state .m ≡ length (take (16 * x .state .m) scratch)
 
-shorter : (m : ℕ) (l : List ℕ) → length (take m l) ≤ length l
-shorter m l = omega (arith, length-take m l)
-
 pub ready : (x : Machine) (scratch : List ℕ) → refusalOf x scratch ≡ 0 → Ready x scratch
-unfolding badSizes inRange
 ready x scratch e =
     let r = x .state in
     let mem = x .memory in
     let table = x .table in
     let w = refuse-none (wrongSizes x) 9 (refuse (not (canBegin x scratch)) 22 0) e in
-    let q₀ : Bool = leb (r .m) (length (take (r .m) mem)) && leb (9 * r .n) (length (stateOf x .links)) in
-    let p₃ : Bool = leb (r .m) 8192 && leb (r .n) 511 in
-    let p₂ : Bool = leb (r .k) (r .m) && p₃ in
-    let a = and-true (ltb 0 (r .k) && p₂) q₀ (not-false _ (w .0)) in
-    let b = and-true (ltb 0 (r .k)) p₂ (a .0) in
-    let c = and-true (leb (r .k) (r .m)) p₃ (b .1) in
-    let d = and-true (leb (r .m) 8192) (leb (r .n) 511) (c .1) in
-    let f = and-true (leb (r .m) (length (take (r .m) mem))) _ (a .1) in
+    let s = wrongSizes-right x (w .0) in
     let r₄ : Bool = leb mostWords (length table) && leb (scratchWords r) (length scratch) in
     let r₃ : Bool = eqb (r .qifw) 0 && r₄ in
     let r₂ : Bool = eqb (r .n) 0 && r₃ in
     let g = and-true (starts (statusOf r) (take (r .m) mem) (getD (r .regs) 0 0)) r₂ (not-not _ (refuse-none (not (canBegin x scratch)) 21 0 (w .1) .0)) in
     let h = and-true (eqb (r .qifw) 0) r₄ (and-true (eqb (r .n) 0) r₃ (g .1) .1) in
     let i = and-true (leb mostWords (length table)) (leb (scratchWords r) (length scratch)) (h .1) in
-    let long : r .m ≤ length mem = omega (arith, leb-true (r .m) (length (take (r .m) mem)) (f .0), shorter (r .m) mem) in
     let most : 4599 ≤ length table = leb-true 4599 (length table) (i .0) in
     let room : 16 * r .m ≤ length scratch = leb-true (16 * r .m) (length scratch) (i .1) in
     record {
       sizes = w .0;
-      code = (ltb-true 0 (r .k) (b .0), leb-true (r .k) (r .m) (c .0), leb-true (r .m) 8192 (d .0));
-      words = long;
-      front = sym (length-take-le (r .m) mem long);
+      code = (s .some, s .code, s .words);
+      words = s .memory;
+      front = sym (length-take-le (r .m) mem (s .memory));
       wait = eqb-true (r .qifw) 0 (h .0);
       nodes = most;
       table-front = sym (length-take-le 4599 table most);

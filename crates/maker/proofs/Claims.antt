@@ -1,22 +1,21 @@
 -- The claims of a made table. Assumes nothing.
 use mathlib.Core.Path.{_≡_, refl, sym, ap, ap₂, _∙_, subst, subst₂}
-use mathlib.Core.Bool.{Bool, true, false, not, _&&_, _||_, false≢true}
+use mathlib.Core.Bool.{Bool, true, false, not, _||_, false≢true}
 use mathlib.Core.Logic.{_⊎_, inl, inr}
 use mathlib.Core.List.{List, [], _∷_, _++_}
 use Prim.Native.Nat.{ℕ, zero, suc, _+_, _-_, _*_, _<_, _≤_}
 use native.Mathlib.Omega.{arith}
-use lib.Dec.{eqb, ltb, leb}
+use lib.Dec.{eqb}
 use lib.ListN.{length, getD, take, drop, replicate, length-replicate, List·getD-append}
 use lib.Seq.{length-take-le, take-append-le, getD-take}
-use borrow.Author.Tests.{lt-ltb, le-leb, leb-true, eqb-true, eqb-false, not-false}
+use borrow.Author.Tests.{lt-ltb, le-leb, eqb-true, eqb-false}
 use Rattle.word.specs.Word.{pick}
-use Rattle.word.proofs.Words.{and-true}
 use Rattle.step.specs.declared.Direction.the-variants.{Forward}
 use Rattle.step.specs.declared.Attempt.the-variants.{Refused}
-use Rattle.step.specs.declared.Status.{Status}
 use Rattle.step.specs.Table.{tableWords}
 use Rattle.word.specs.Refusal.{refuse}
 use Rattle.step.specs.Sizes.{inRange, badSizes}
+use Rattle.step.proofs.BadSizes.{badSizes-right}
 use Rattle.step.specs.View.{View, placed}
 use Rattle.machine.specs.Turn.{pc, landed, judged, executed, planned}
 use Rattle.machine.specs.declared.Record.{Record}
@@ -316,19 +315,12 @@ on-refused =
 
 -- ---- over all nestings
 
-table-long : (at : Status) (l t : List ℕ) → badSizes at l t ≡ false → 9 * at .n ≤ length t
-unfolding badSizes inRange
-table-long at l t e =
-    let p : Bool = ltb 0 (at .k) && (leb (at .k) (at .m) && (leb (at .m) 8192 && leb (at .n) 511)) in
-    let q : Bool = leb (at .m) (length l) && leb (9 * at .n) (length t) in
-    leb-true (9 * at .n) (length t) (and-true (leb (at .m) (length l)) (leb (9 * at .n) (length t)) (and-true p q (not-false (p && q) e) .1) .1)
-
 pub any-nesting : AnyNesting
 unfolding badSizes inRange
 any-nesting =
     record {
       walks = λ limit nest s z p t e sized c b.
-          let l = table-long (placed (1 + size p) 1 0 s .at) (s .memory) (drawn p 1 1 t) sized in
+          let l = badSizes-right (placed (1 + size p) 1 0 s .at) (s .memory) (drawn p 1 1 t) sized .links in
           machine-follows limit nest s z p e (drawn p 1 1 t) sized
           (drawn-holds p 1 1 (1 + size p) t (omega arith) (omega arith) (omega arith) (omega (arith, l, drawn-long p 1 1 t))) c b .0;
     }

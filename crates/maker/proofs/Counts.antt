@@ -5,7 +5,6 @@ use Prim.Native.Nat.{ℕ, zero, suc, _+_, _<_, _≤_}
 use native.Mathlib.Omega.{arith}
 use borrow.Author.Tests.{leb-false, ltb-false}
 use Rattle.word.specs.Refusal.{refuse}
-use Rattle.word.proofs.Refusal.{refuse-passed}
 use Rattle.word.proofs.Words.{not-not}
 use Rattle.maker.specs.Walk.{Walk, size, used, cycles}
 use Rattle.maker.specs.Walk.Walk.{begin, step, fork}
@@ -43,9 +42,6 @@ module _ {S : Type 0} (P : Walk → Walk → S → Type 0) where
   all-outcome (ended p t) f h = h p t refl
 
 -- a number that is 0 passed its first test
-pub refuse-none : (b : Bool) (k n : ℕ) → refuse b (suc k) n ≡ 0 → (b ≡ false) × (n ≡ 0)
-refuse-none b k n e = refuse-passed b (suc k) n 0 e (λ z. omega (arith, z))
-
 module _ {S : Type 0} (M : Walkable S) (limit : ℕ) where
   -- a qif that is accepted, with n nodes made and u cycles used, at s
   pub record Accepted (branch : ℕ → ℕ → S → Outcome S) (n u : ℕ) (s : S) (a b : Walk) (t : S) : Type 0 where

@@ -13,7 +13,7 @@ use Rattle.step.specs.Table.{fc, lc, cf, cl, nx, pr, w, link, paired}
 use Rattle.step.specs.Step.{performed}
 use Rattle.step.specs.Sizes.{inRange, badSizes}
 use Rattle.step.proofs.Sized.{marked-sizes, stored-long}
-use Rattle.machine.proofs.Inverse.{same-sizes}
+use Rattle.step.proofs.BadSizes.{badSizes-same}
 use Rattle.machine.specs.Turn.{pc, isCode, finishes, to}
 use Rattle.maker.specs.Walk.{Walk, size, cycles, ending}
 use Rattle.maker.specs.Walkable.{Look}
@@ -58,7 +58,7 @@ module _ (t : List ℕ) (N : ℕ) where
   sized-effect s e z =
       let z′ : View = to Forward (performed e (placed 0 0 0 s)) in
       let k = marked-sizes e (placed 0 0 0 s .at) in
-      same-sizes t (placed N 0 0 s .at) (placed N 0 0 z′ .at) (s .memory) (z′ .memory) (record { k = k .k; m = k .m; n = refl }) (stored-long e (s .regs) (s .memory)) ∙ z
+      badSizes-same t (placed N 0 0 s .at) (placed N 0 0 z′ .at) (s .memory) (z′ .memory) (record { k = k .k; m = k .m; n = refl }) (stored-long e (s .regs) (s .memory)) ∙ z
 
   sized-goes : (s y : View) → lookAt s ≡ goes y → Sized t N s → Sized t N y
   sized-goes s y e z = let q = at-plain s y e in subst (Sized t N) (q .next) (sized-effect s (q .e) z)

@@ -9,12 +9,12 @@ use lib.Dec.{ltb, leb}
 use lib.ListN.{getD}
 use borrow.Author.Tests.{leb-false, ltb-false}
 use Rattle.word.specs.Refusal.{refuse}
-use Rattle.word.proofs.Refusal.{refuse-false}
+use Rattle.word.proofs.Refusal.{refuse-false, refuse-none}
 use Rattle.word.specs.Lists.{same}
 use Rattle.word.proofs.Lists.{same-equal}
 use Rattle.step.specs.View.{View, sized}
 use Rattle.step.proofs.Same.{sameView-status}
-use Rattle.maker.proofs.Counts.{cycles-used, refuse-none}
+use Rattle.maker.proofs.Counts.{cycles-used}
 use Rattle.word.proofs.Words.{and-true, not-not}
 use Rattle.maker.specs.Walk.{Walk, size, used, cycles, ending, linked, drawn, forkSize, forkUsed, forkCycles, forkLinked, lack}
 use Rattle.maker.specs.Making.{Outcome, Forks, byOutcome, forkBy, forkAt, branchAt}

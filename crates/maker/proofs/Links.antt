@@ -15,7 +15,6 @@ use Rattle.links.specs.declared.Checked.{Checked}
 use Rattle.links.specs.Check.{returns, childrenReturn, unpaired, checkOf, checkNodeOf}
 use Rattle.links.specs.Claims.{Paired}
 use Rattle.links.proofs.Decides.{both, either, equal, node}
-use Rattle.word.proofs.Refusal.{refuse-false}
 use Rattle.links.proofs.OneNode.{links-decide}
 use Rattle.links.proofs.NodeByNode.{before-nodes, node-by-node}
 use Rattle.maker.specs.Walk.{Walk, size, ending, put, pair, linked, drawn, forkSize, forkLinked, lack}
@@ -250,7 +249,7 @@ made-zeros p t i h l z k =
 
 pub node-passes : (x : Machine) (v : ℕ) → wrongSizes x ≡ false → 0 < v → v ≤ x .state .n → unpaired (stateOf x .links) (x .state .n) v ≡ false
     → checkNodeOf x v ≡ 0
-node-passes x v o p q h = links-decide x v o p q ∙ refuse-false _ 8 0 h
+node-passes x v o p q h = links-decide x v o p q ∙ rw h
 
 pub check-passes : (x : Machine) → ((v : ℕ) → 0 < v → v ≤ x .state .n → unpaired (stateOf x .links) (x .state .n) v ≡ false) → checkOf x .refusal ≡ 8 → ⊥
 check-passes x h e =

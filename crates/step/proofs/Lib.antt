@@ -1,5 +1,6 @@
 pub mod Views
 pub mod Sized
+pub mod BadSizes
 pub mod Same
 pub mod Known
 pub mod Numbers

@@ -4,7 +4,6 @@ use mathlib.Core.Path.{_≡_, refl, ap, _∙_}
 use mathlib.Core.Bool.{Bool, true, false}
 use mathlib.Core.List.{List, [], _∷_}
 use lib.Dec.{eqb, ltb}
-use Rattle.word.specs.Word.{pick}
 use Rattle.word.specs.Refusal.{refuse}
 use Rattle.wheel.specs.Wheel.{steps, fault, Counts, started, ended, Wheel, wheelAt, moved, taken, run}
 use Rattle.wheel.specs.Claims.{endOf, SamplesAlone}

@@ -1,6 +1,8 @@
 -- Laws of refusals in order. Assumes nothing.
 use mathlib.Core.Path.{_≡_, refl}
 use mathlib.Core.Bool.{Bool, true, false}
+use Prim.Native.Nat.{ℕ, suc}
+use native.Mathlib.Omega.{arith}
 use Rattle.word.specs.Refusal.{refuse}
 
 module _ {A : Type 0} where
@@ -30,3 +32,7 @@ module _ {A : Type 0} where
   unfolding refuse
   refuse-neither true a rest c n m e = n e
   refuse-neither false a rest c n m e = m e
+
+-- where the answer is a number, no refusal is one of none of them
+pub refuse-none : (b : Bool) (k n : ℕ) → refuse b (suc k) n ≡ 0 → (b ≡ false) × (n ≡ 0)
+refuse-none b k n e = refuse-passed b (suc k) n 0 e (λ z. omega (arith, z))

@@ -2,7 +2,8 @@ use mathlib.Core.Path.{sym, _∙_}
 use denote.Ref.{now}
 use Rattle.machine.specs.Machine.{machineOf}
 use native.Mathlib.Omega.{arith}
-use Rattle.links.proofs.Answers.{checkable, check-sizes, check-code, check-node, check-good}
+use Rattle.machine.proofs.WrongSizes.{wrongSizes-right}
+use Rattle.links.proofs.Answers.{check-sizes, check-code, check-node, check-good}
 use borrow.Author.Needs.{needs}
 use Rattle.links.proofs.check.Statement.{statement}
 use Rattle.links.proofs.check.Tie as tie
@@ -24,7 +25,7 @@ check-spec =
     (λ c κs.
     let i = c .before .before .before in
     let g = i .before .before .before .before .args in
-    omega (arith, checkable (machineOf (g .r) (now (g .mem)) (now (g .table))) (sym (i .before .has-bad-sizes .ensures) ∙ i .if1 .left) .nodes))
+    omega (arith, wrongSizes-right (machineOf (g .r) (now (g .mem)) (now (g .table))) (sym (i .before .has-bad-sizes .ensures) ∙ i .if1 .left) .nodes))
     (λ c.
     let v = c .before .before in
     let a = v .before .before .before in

@@ -1,5 +1,4 @@
 use borrow.Author.Tests.{eq-eqb, ne-eqb}
-use borrow.Author.Needs.{needs}
 use Rattle.program.proofs.status.Statement.{statement}
 use Rattle.program.proofs.status.Tie as tie
 
