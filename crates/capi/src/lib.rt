@@ -2,7 +2,6 @@
 ghost use mathlib.Core.Path.{_≡_};
 ghost use Rattle.step.specs.declared.Direction.{Direction};
 ghost use Rattle.machine.specs.Lent.{atEntry, atExit};
-ghost use Rattle.machine.specs.Lent.{atEntry, atExit};
 ghost use Rattle.machine.specs.Calls.{TurnPromise};
 ghost use Rattle.machine.specs.Batch.{BatchPromise};
 ghost use Rattle.machine.specs.Preview.{PreviewPromise};

@@ -49,7 +49,7 @@ abbrev pub LastRefused : Type 0
 LastRefused =
     (d : Direction) (x y : Machine) (n : ℕ) → TurnPromise d x n y → x .state .position ≡ end d → n ≡ refuse (wrongSizes x) 10 21
 
--- From any two other positions a turn is the same but for the position that it leaves: it looks at nothing else of them.
+-- From any two other positions a turn is the same except for the position that it leaves: it looks at nothing else of them.
 abbrev pub Unseen : Type 0
 Unseen =
     (d : Direction) (x y z : Machine) (p : ℤ) (n k : ℕ) → TurnPromise d x n y → TurnPromise d (atPosition x p) k z

@@ -66,7 +66,9 @@ room Back (negsuc n) = 9223372036854775807 - n
 
 -- the refusal at the last position
 abbrev pub lastRefusal : Machine → ℕ
-lastRefusal x = refuse (wrongSizes x) 10 21
+lastRefusal x =
+    refuse (wrongSizes x) 10
+    21
 
 -- the record k turns further, by what a run came to
 abbrev pub recordBy : Direction → ℕ → Record → Ran → Record

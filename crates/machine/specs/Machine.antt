@@ -33,7 +33,7 @@ positioned r p = recordAt (statusOf r) (r .regs) p
 abbrev pub withStatus : Record → Status → Record
 withStatus r at = recordAt at (r .regs) (r .position)
 
--- the record of a status and registers of which no turn was made
+-- the record of a status and registers, at position 0
 abbrev pub newRecord : Status → List ℕ → Record
 newRecord at regs = recordAt at regs (pos 0)
 

@@ -112,7 +112,7 @@ fn land(a: Attempt, new: u32, at: Status, regs: &[u32], mem: &[u32]) -> Attempt
 
 // The refusals around the word's own attempt a, except 21, which the run sees to; old is pc before it
 // shrank, new is pc after the turn. The last ones are found first: nested as in the definition they cost
-// every turn of a run three instructions more.
+// every turn of a run three instructions more, and four back.
 fn judge(
     d: Direction,
     old: u32,

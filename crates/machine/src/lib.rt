@@ -117,7 +117,7 @@ impl Record {
 
     pub const NODE_WORDS: usize = step::table::NODE_WORDS;
 
-    // Of a status and registers, of which no turn was made.
+    // Of a status and registers, at position 0.
     pub fn new(at: Status, regs: [u32; 16]) -> Record
         ensures { λ r. ⌜ r ≡ newRecord at regs ⌝ }
     {

@@ -68,8 +68,13 @@ isRegister s a = ltb 1 a && ltb a (length (s .regs))
 
 abbrev pub lookBy : Kind → Op → View → Look View
 lookBy Plain o s = plain o s
-lookBy (Opens a) o s = refuse (not (isRegister s a)) (halts 13) (refuse (isBeforeStart s) (halts 18) forks)
-lookBy (Closes a) o s = refuse (not (isRegister s a)) (halts 13) joins
+lookBy (Opens a) o s =
+    refuse (not (isRegister s a)) (halts 13)
+    (refuse (isBeforeStart s) (halts 18)
+    forks)
+lookBy (Closes a) o s =
+    refuse (not (isRegister s a)) (halts 13)
+    joins
 
 unfoldable pub lookAt : View → Look View
 lookAt s =

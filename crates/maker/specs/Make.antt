@@ -40,7 +40,10 @@ canBegin x scratch =
 
 -- 10 or 22, else 0
 abbrev pub refusalOf : Machine → List ℕ → ℕ
-refusalOf x scratch = refuse (wrongSizes x) 10 (refuse (not (canBegin x scratch)) 22 0)
+refusalOf x scratch =
+    refuse (wrongSizes x) 10
+    (refuse (not (canBegin x scratch)) 22
+    0)
 
 -- ---- the walk: from node 1, the only one made, with no cycle used and a nesting of eight
 
@@ -69,7 +72,7 @@ makeOf x limit scratch =
     let n = refusalOf x scratch in
     pick (eqb n 0) (answerOf (x .state) (outcomeOf x limit)) (madeAs n 0 (x .state))
 
--- ---- the table at exit: the nodes and then zeros, or zeros alone; after them, and after 10 and 22, as it was
+-- ---- the table at exit: the nodes and then zeros, or zeros alone; beyond them as it was, and all of it where 10 or 22 refuses
 
 abbrev pub drawnBy : Outcome View → List ℕ
 drawnBy (refused i) = replicate mostWords 0
@@ -86,6 +89,6 @@ pub record MakePromise (x : Machine) (limit : ℕ) (scratch : List ℕ) (n c : �
   pub answer : madeAs n c (y .state) ≡ makeOf x limit scratch
   pub memory : y .memory ≡ x .memory
   pub nodes : y .table ≡ tableAfter x limit scratch
-  -- after its first 16 M words the scratch is as it was, and all of it is after 10 and 22
+  -- beyond its first 16 M words the scratch is as it was, and all of it is where 10 or 22 refuses
   pub behind : drop (scratchWords (x .state)) scratch′ ≡ drop (scratchWords (x .state)) scratch
   pub untouched : (refusalOf x scratch ≡ 0 → ⊥) → scratch′ ≡ scratch

@@ -95,7 +95,10 @@ heldOf a x l z = eqb a (coinIn l z) && eqb (getD l (coinIn l z) 0) x
 
 -- the number that refuses: at the qif, with n nodes made and u cycles used
 unfoldable pub qifRefusalOf : ℕ → ℕ → ℕ → ℕ
-qifRefusalOf limit n u = refuse (leb limit u) 23 (refuse (ltb 509 n) 23 0)
+qifRefusalOf limit n u =
+    refuse (leb limit u) 23
+    (refuse (ltb 509 n) 23
+    0)
 
 -- at the fiq of branch 0
 unfoldable pub firstFiqRefusalOf : ℕ → ℕ → ℕ → ℕ → ℕ → List ℕ → List ℕ → ℕ

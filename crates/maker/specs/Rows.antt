@@ -26,9 +26,9 @@ nines n = replicate n 9
 -- refusal, cycles, N and node; then the words of the nodes and of one node after them
 abbrev pub observed : Row → List ℕ
 observed x =
-    let lent = machineOf (x .state) (x .memory) (nines (x .table)) in
-    let a = makeOf lent (x .limit) (nines (x .scratch)) in
-    let t = tableAfter lent (x .limit) (nines (x .scratch)) in
+    let given = machineOf (x .state) (x .memory) (nines (x .table)) in
+    let a = makeOf given (x .limit) (nines (x .scratch)) in
+    let t = tableAfter given (x .limit) (nines (x .scratch)) in
     a .refusal ∷ a .cycles ∷ a .state .n ∷ a .state .qifv ∷ take (tableWords (a .state .n + 1)) t
 
 -- The statement: every row shows what it says

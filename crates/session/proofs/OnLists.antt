@@ -7,8 +7,8 @@ use Rattle.session.specs.Claims.{OnLists}
 pub on-lists : OnLists
 on-lists =
     record {
-      turn = λ d table b b′ mem mem′ r h. single d (machineOn b mem table) (machineOn b′ mem′ table) r h;
-      batch = λ d n table b b′ mem mem′ r h. batch d n (machineOn b mem table) (machineOn b′ mem′ table) (r .turns) (r .refusal) h;
-      samples = λ given l table b b′ mem mem′ r h. samples given l (machineOn b mem table) (machineOn b′ mem′ table) (countsIn r) h;
+      turn = λ d b b′ mem mem′ table table′ r h. single d (machineOn b mem table) (machineOn b′ mem′ table′) r h;
+      batch = λ d n b b′ mem mem′ table table′ r h. batch d n (machineOn b mem table) (machineOn b′ mem′ table′) (r .turns) (r .refusal) h;
+      samples = λ given l b b′ mem mem′ table table′ r h. samples given l (machineOn b mem table) (machineOn b′ mem′ table′) (countsIn r) h;
       preview = λ d table b mem p h. reads (machineOn b mem table) (preview d p h);
     }

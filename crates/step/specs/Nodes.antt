@@ -1,4 +1,4 @@
--- Which operations set the node: qif and fiq, each by the coin in a register, and no other.
+-- An operation by whether it is a qif, a fiq or any other.
 use Prim.Native.Nat.{ℕ}
 use mathlib.Core.Bool.{Bool, true, false}
 use Rattle.qins.specs.Op.{Op}
@@ -20,5 +20,6 @@ byNode (Exchange a v) q f x = x
 byNode (Qif a) q f x = q a
 byNode (Fiq a) q f x = f a
 
+-- a qif or a fiq: no other operation sets the node
 abbrev pub setsNode : Op → Bool
 setsNode o = byNode o (λ a. true) (λ a. true) false

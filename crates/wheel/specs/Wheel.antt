@@ -22,7 +22,10 @@ steps p s = subWord (place s) (place p) % 4
 
 -- why the sample s after p ends the call, 0 where it doesn't: 20 above 3, then 19 two steps away
 abbrev pub fault : ℕ → ℕ → ℕ
-fault p s = refuse (ltb 3 s) 20 (refuse (eqb (steps p s) 2) 19 0)
+fault p s =
+    refuse (ltb 3 s) 20
+    (refuse (eqb (steps p s) 2) 19
+    0)
 
 -- ---- the turn of k steps: one is a turn forward; three are one against the circle, a turn back; none is no turn
 

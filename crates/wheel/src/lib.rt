@@ -7,6 +7,7 @@ ghost use Rattle.wheel.specs.Wheel.{place, steps, fault, countsOf, count
 use machine::Record;
 use machine::Turned;
 use word::choose;
+use word::refused_if;
 use word::wide;
 
 // What the samples of a call came to: turns accepted forward and back, and turns refused; the last sample
@@ -42,16 +43,11 @@ fn steps_to(p: u32, s: u32) -> u32
     word::sub_word(place_of(s), place_of(p)) % 4
 }
 
+// Not by early returns, which cost a call one sample in twelve.
 fn fault_at(p: u32, s: u32) -> u32
     ensures { λ r. ⌜ r ≡ fault p s ⌝ }
 {
-    if 3 < s {
-        return 20;
-    }
-    if steps_to(p, s) == 2 {
-        return 19;
-    }
-    0
+    refused_if(3 < s, 20, refused_if(steps_to(p, s) == 2, 19, 0))
 }
 
 // ---- the samples of a call

@@ -33,6 +33,6 @@ module _ {A : Type 0} where
   refuse-neither true a rest c n m e = n e
   refuse-neither false a rest c n m e = m e
 
--- where the answer is a number, no refusal is one of none of them
+-- 0 is given only where the test fails and the rest gives 0
 pub refuse-none : (b : Bool) (k n : ℕ) → refuse b (suc k) n ≡ 0 → (b ≡ false) × (n ≡ 0)
 refuse-none b k n e = refuse-passed b (suc k) n 0 e (λ z. omega (arith, z))

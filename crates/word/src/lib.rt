@@ -3,6 +3,7 @@ ghost use mathlib.Core.Path.{_≡_};
 ghost use mathlib.Core.Bool.{true, false, _&&_, _||_};
 ghost use Prim.Native.Nat.{_+_, _-_, _*_, _/_, _%_};
 ghost use lib.Bits.{bitXor};
+ghost use Rattle.word.specs.Refusal.{refuse};
 ghost use Rattle.word.specs.Word.{pick, addWord, subWord, mulWord, divWord, complement, withBit};
 
 pub mod signed;
@@ -69,6 +70,13 @@ pub fn choose(test: bool, a: u32, b: u32) -> u32
     ensures { λ r. ⌜ r ≡ pick test a b ⌝ }
 {
     if test { a } else { b }
+}
+
+// A refusal: n where the test holds, else the rest.
+pub fn refused_if(bad: bool, n: u32, rest: u32) -> u32
+    ensures { λ r. ⌜ r ≡ refuse bad n rest ⌝ }
+{
+    if bad { n } else { rest }
 }
 
 // Both tests hold, or one does. Calls, since the second half of an && or an || tells a proof less.
