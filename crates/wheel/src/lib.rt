@@ -43,7 +43,7 @@ fn steps_to(p: u32, s: u32) -> u32
     word::sub_word(place_of(s), place_of(p)) % 4
 }
 
-// Not by early returns, which cost a call one sample in twelve.
+// Not by early returns: that build made fewer samples per second (DECISIONS, "Refusals in order").
 fn fault_at(p: u32, s: u32) -> u32
     ensures { λ r. ⌜ r ≡ fault p s ⌝ }
 {
