@@ -110,6 +110,12 @@ typedef struct Sampled {
     uint32_t refusal;
 } Sampled;
 
+/* What the making of a qif table on the lesson bench answers. */
+typedef struct Tabled {
+    uint32_t refusal;
+    uint32_t cycles; /* as in Made */
+} Tabled;
+
 CRANK_LAYOUT(sizeof(Record) == 96, "Record: 21 words, one to fill up, and the position");
 CRANK_LAYOUT(offsetof(Record, qifv) == 64, "Record: registers first");
 CRANK_LAYOUT(offsetof(Record, position) == 88, "Record: position last");
@@ -141,6 +147,8 @@ CRANK_LAYOUT(offsetof(Sampled, back) == 8, "Sampled: forward first");
 CRANK_LAYOUT(offsetof(Sampled, refused) == 16, "Sampled: then back");
 CRANK_LAYOUT(offsetof(Sampled, last) == 24, "Sampled: then refused");
 CRANK_LAYOUT(offsetof(Sampled, refusal) == 28, "Sampled: last, then refusal");
+CRANK_LAYOUT(sizeof(Tabled) == 8, "Tabled: 2 words");
+CRANK_LAYOUT(offsetof(Tabled, cycles) == 4, "Tabled: refusal first");
 
 /* ---- Turns, previews, batches and samples: libcapi.a ----
  *
@@ -250,9 +258,10 @@ Made crank_make_table(Record r, uint32_t limit, uint32_t *mem, size_t mem_len,
 
 /* ---- The lesson bench: libsession.a ----
  *
- * The turns, batches and samples above with the record in *b, which each call leaves as the record
- * that the call by value would have answered. mem and table are lent as there. Previews are those of
- * libcapi.a, with the record in *b: crank_preview_forward(b->state, ..).
+ * Every call above that takes a record, and the load, with the record in *b instead. A call that
+ * turns or makes leaves in *b the record that the call by value would have answered; a load does so
+ * where it is accepted. A call that takes a const Bench only looks at it. mem, table and all else are
+ * lent as above, and the refusals are the same.
  */
 
 /* One turn; answers its refusal. Refused: *b and mem are as they were. */
@@ -272,6 +281,34 @@ Cranked bench_back_batch(Bench *b, uint32_t n, uint32_t *mem, size_t mem_len,
  * turns, with a refusal too. */
 Sampled bench_samples(Bench *b, uint8_t given, const uint8_t *samples, size_t samples_len,
                       uint32_t *mem, size_t mem_len, const uint32_t *table, size_t table_len);
+
+/* The turn, shown and not made, as by crank_preview_forward. */
+Preview bench_preview_forward(const Bench *b, const uint32_t *mem, size_t mem_len,
+                              const uint32_t *table, size_t table_len);
+Preview bench_preview_back(const Bench *b, const uint32_t *mem, size_t mem_len,
+                           const uint32_t *table, size_t table_len);
+
+/* Reads an image, by the rules of crank_load, whatever *b holds; it answers the same, and *b then
+ * holds the record. Refused: the record of zeros is in the answer alone, *b, mem and table are as they
+ * were. */
+Loaded bench_load(Bench *b, const uint8_t *file, size_t file_len, uint32_t *mem, size_t mem_len,
+                  uint32_t *table, size_t table_len);
+
+/* Writes the image, as crank_save does; answers the refusal. */
+uint32_t bench_save(const Bench *b, const uint32_t *mem, size_t mem_len,
+                    const uint32_t *table, size_t table_len, uint8_t *out, size_t out_len);
+
+/* Looks at the code words and links, and at the links of one node, as crank_check and
+ * crank_check_node do. */
+Checked bench_check(const Bench *b, const uint32_t *mem, size_t mem_len,
+                    const uint32_t *table, size_t table_len);
+uint32_t bench_check_node(const Bench *b, uint32_t node, const uint32_t *mem, size_t mem_len,
+                          const uint32_t *table, size_t table_len);
+
+/* Makes the qif table of the code, by the rules of crank_make_table: *b then has the new n and qifv 1.
+ * Refused: *b is as it was. */
+Tabled bench_make_table(Bench *b, uint32_t limit, uint32_t *mem, size_t mem_len,
+                        uint32_t *table, size_t table_len, uint32_t *scratch, size_t scratch_len);
 
 /* ---- The crank program: libprogram.a ---- */
 

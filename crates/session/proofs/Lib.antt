@@ -1,4 +1,8 @@
-pub mod Form
+pub mod Params
 pub mod Rules
-pub mod Crank
+pub mod Loads
+pub mod Forms
+pub mod Looking
+pub mod Altering
+pub mod Answers
 pub mod OnLists

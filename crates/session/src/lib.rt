@@ -1,10 +1,21 @@
-// The lesson bench: one record, lent by `&mut`, that each crank call alters for its caller. A call
-// takes it apart, makes the turns by value, puts the new record back and answers.
+// The lesson bench: one record, lent by `&mut` to the calls that alter it and by `&` to those that only look. Each
+// call takes the bench by value, asks what is inside it, puts back what it has become, and answers.
+ghost use mathlib.Core.Path.{_≡_};
 ghost use Rattle.step.specs.declared.Direction.{Direction};
 ghost use Rattle.machine.specs.Calls.{TurnPromise};
 ghost use Rattle.machine.specs.Batch.{BatchPromise};
+ghost use Rattle.machine.specs.Preview.{PreviewPromise};
 ghost use Rattle.wheel.specs.Wheel.{WheelPromise};
-ghost use Rattle.session.specs.Bench.{benchAtEntry, benchAtExit, countsIn};
+ghost use Rattle.image.specs.Save.{SavePromise};
+ghost use Rattle.links.specs.Check.{checkOf, checkNodeOf};
+ghost use Rattle.maker.specs.Make.{MakePromise};
+ghost use Rattle.session.specs.Bench.{benchAtEntry, benchAtExit, countsIn, BenchLoadPromise};
+
+mod inside;
+
+use image::Loaded;
+use links::Checked;
+use machine::Preview;
 use machine::Record;
 
 #[repr(C)]
@@ -30,15 +41,24 @@ pub struct Sampled {
     pub refusal: u32,
 }
 
+// What the making of a table on the bench answers: likewise.
+#[repr(C)]
+pub struct Tabled {
+    pub refusal: u32,
+    pub cycles: u32,
+}
+
+// ---- calls that alter the bench
+
 // One turn forward; the answer is its refusal, 0 for none.
 #[no_mangle]
 pub extern "C" fn bench_forward(b: &mut Bench, mem: &mut [u32], table: &[u32]) -> u32
     ensures { λ r. ⌜ TurnPromise Direction.Forward (benchAtEntry b mem table) r (benchAtExit b mem table) ⌝ }
 {
-    let r = b.state;
-    let t = r.forward(mem, table);
-    b.state = t.state;
-    t.refusal
+    let h = *b;
+    let t = inside::forward(h, mem, table);
+    *b = t.bench;
+    t.answer
 }
 
 // One turn back.
@@ -46,10 +66,10 @@ pub extern "C" fn bench_forward(b: &mut Bench, mem: &mut [u32], table: &[u32]) -
 pub extern "C" fn bench_back(b: &mut Bench, mem: &mut [u32], table: &[u32]) -> u32
     ensures { λ r. ⌜ TurnPromise Direction.Back (benchAtEntry b mem table) r (benchAtExit b mem table) ⌝ }
 {
-    let r = b.state;
-    let t = r.back(mem, table);
-    b.state = t.state;
-    t.refusal
+    let h = *b;
+    let t = inside::back(h, mem, table);
+    *b = t.bench;
+    t.answer
 }
 
 // n turns forward, or those before the first refusal.
@@ -62,13 +82,10 @@ pub extern "C" fn bench_forward_batch(
 ) -> Cranked
     ensures { λ r. ⌜ BatchPromise Direction.Forward n (benchAtEntry b mem table) (r .turns) (r .refusal) (benchAtExit b mem table) ⌝ }
 {
-    let r = b.state;
-    let t = r.forward_batch(n, mem, table);
-    b.state = t.state;
-    Cranked {
-        turns: t.turns,
-        refusal: t.refusal,
-    }
+    let h = *b;
+    let t = inside::forward_batch(h, n, mem, table);
+    *b = t.bench;
+    t.answer
 }
 
 // n turns back, likewise.
@@ -76,13 +93,10 @@ pub extern "C" fn bench_forward_batch(
 pub extern "C" fn bench_back_batch(b: &mut Bench, n: u32, mem: &mut [u32], table: &[u32]) -> Cranked
     ensures { λ r. ⌜ BatchPromise Direction.Back n (benchAtEntry b mem table) (r .turns) (r .refusal) (benchAtExit b mem table) ⌝ }
 {
-    let r = b.state;
-    let t = r.back_batch(n, mem, table);
-    b.state = t.state;
-    Cranked {
-        turns: t.turns,
-        refusal: t.refusal,
-    }
+    let h = *b;
+    let t = inside::back_batch(h, n, mem, table);
+    *b = t.bench;
+    t.answer
 }
 
 // The turns that the wheel makes from the given sample through the samples.
@@ -96,14 +110,88 @@ pub extern "C" fn bench_samples(
 ) -> Sampled
     ensures { λ r. ⌜ WheelPromise given (now (samples .entry)) (benchAtEntry b mem table) (countsIn r) (benchAtExit b mem table) ⌝ }
 {
-    let r = b.state;
-    let t = wheel::follow(r, given, samples, mem, table);
-    b.state = t.state;
-    Sampled {
-        forward: t.forward,
-        back: t.back,
-        refused: t.refused,
-        last: t.last,
-        refusal: t.refusal,
-    }
+    let h = *b;
+    let t = inside::samples(h, given, samples, mem, table);
+    *b = t.bench;
+    t.answer
+}
+
+// Loads an image: the bench takes its record, and is left as it was where the load is refused.
+#[no_mangle]
+pub extern "C" fn bench_load(
+    b: &mut Bench,
+    file: &[u8],
+    mem: &mut [u32],
+    table: &mut [u32],
+) -> Loaded
+    ensures { λ r. ⌜ BenchLoadPromise (now (file .entry)) (benchAtEntry b mem table) r (benchAtExit b mem table) ⌝ }
+{
+    let h = *b;
+    let t = inside::load(h, file, mem, table);
+    *b = t.bench;
+    t.answer
+}
+
+// Makes the qif table, in at most limit cycles walked.
+#[no_mangle]
+pub extern "C" fn bench_make_table(
+    b: &mut Bench,
+    limit: u32,
+    mem: &mut [u32],
+    table: &mut [u32],
+    scratch: &mut [u32],
+) -> Tabled
+    ensures { λ r. ⌜ MakePromise (benchAtEntry b mem table) limit (now (scratch .entry)) (r .refusal) (r .cycles) (benchAtExit b mem table) (now (scratch .exit)) ⌝ }
+{
+    let h = *b;
+    let t = inside::make_table(h, limit, mem, table, scratch);
+    *b = t.bench;
+    t.answer
+}
+
+// ---- calls that only look at it
+
+// The turn forward, shown and not made.
+#[no_mangle]
+pub extern "C" fn bench_preview_forward(b: &Bench, mem: &[u32], table: &[u32]) -> Preview
+    ensures { λ r. ⌜ PreviewPromise Direction.Forward (benchAtEntry b mem table) r ⌝ }
+{
+    let h = *b;
+    inside::preview_forward(h, mem, table)
+}
+
+// The turn back, likewise.
+#[no_mangle]
+pub extern "C" fn bench_preview_back(b: &Bench, mem: &[u32], table: &[u32]) -> Preview
+    ensures { λ r. ⌜ PreviewPromise Direction.Back (benchAtEntry b mem table) r ⌝ }
+{
+    let h = *b;
+    inside::preview_back(h, mem, table)
+}
+
+// Writes the image to the front of out; the answer is the refusal.
+#[no_mangle]
+pub extern "C" fn bench_save(b: &Bench, mem: &[u32], table: &[u32], out: &mut [u8]) -> u32
+    ensures { λ r. ⌜ SavePromise (benchAtEntry b mem table) (now (out .entry)) r (now (out .exit)) ⌝ }
+{
+    let h = *b;
+    inside::save(h, mem, table, out)
+}
+
+// The check of the code words and of all links.
+#[no_mangle]
+pub extern "C" fn bench_check(b: &Bench, mem: &[u32], table: &[u32]) -> Checked
+    ensures { λ r. ⌜ r ≡ checkOf (benchAtEntry b mem table) ⌝ }
+{
+    let h = *b;
+    inside::check(h, mem, table)
+}
+
+// The check of one node's links.
+#[no_mangle]
+pub extern "C" fn bench_check_node(b: &Bench, node: u32, mem: &[u32], table: &[u32]) -> u32
+    ensures { λ r. ⌜ r ≡ checkNodeOf (benchAtEntry b mem table) node ⌝ }
+{
+    let h = *b;
+    inside::check_node(h, node, mem, table)
 }

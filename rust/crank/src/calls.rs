@@ -1,10 +1,15 @@
-//! The calls of `include/crank.h`, one function each.
+//! The calls of `include/crank.h`, one function each; those of the lesson bench are methods of
+//! [`Bench`].
 //!
 //! A slice is lent by its own pointer and length, for the time of the call, and no call keeps one.
 //! Every bit pattern is a value of the structs that come back.
 
 use crate::Record;
 use std::mem::offset_of;
+
+mod bench;
+
+pub use bench::{Bench, Cranked, Sampled, Tabled};
 
 /// What a turn answers.
 #[repr(C)]
@@ -91,43 +96,15 @@ pub struct Made {
     pub state: Record,
 }
 
-/// The lesson bench: a record that its calls alter.
-#[repr(C)]
-#[derive(Clone, Copy, Debug, PartialEq, Eq)]
-pub struct Bench {
-    pub state: Record,
-}
-
-/// What a batch on the lesson bench answers.
-#[repr(C)]
-#[derive(Clone, Copy, Debug, PartialEq, Eq)]
-pub struct Cranked {
-    /// The turns made.
-    pub turns: u32,
-    /// As that of [`Batch`].
-    pub refusal: u32,
-}
-
-/// What encoder samples come to on the lesson bench: [`Wheeled`] without the record.
-#[repr(C)]
-#[derive(Clone, Copy, Debug, PartialEq, Eq)]
-pub struct Sampled {
-    pub forward: u64,
-    pub back: u64,
-    pub refused: u64,
-    pub last: u32,
-    pub refusal: u32,
-}
-
 // As the header has them.
 const _: () = assert!(size_of::<Record>() == 96 && offset_of!(Record, position) == 88);
 const _: () = assert!(size_of::<Turned>() == 104 && offset_of!(Turned, refusal) == 96);
 const _: () = assert!(size_of::<Loaded>() == 104 && offset_of!(Loaded, state) == 8);
 const _: () = assert!(size_of::<Preview>() == 112);
-const _: () = assert!(size_of::<Batch>() == 104 && size_of::<Bench>() == 96);
-const _: () = assert!(size_of::<Checked>() == 8 && size_of::<Cranked>() == 8);
+const _: () = assert!(size_of::<Batch>() == 104);
+const _: () = assert!(size_of::<Checked>() == 8);
 const _: () = assert!(size_of::<Made>() == 104 && offset_of!(Made, state) == 8);
-const _: () = assert!(size_of::<Wheeled>() == 128 && size_of::<Sampled>() == 32);
+const _: () = assert!(size_of::<Wheeled>() == 128);
 
 extern "C" {
     fn qins_is_instruction(word: u32) -> u32;
@@ -185,46 +162,6 @@ extern "C" {
         table: *const u32,
         table_len: usize,
     ) -> Wheeled;
-    fn bench_forward(
-        b: *mut Bench,
-        mem: *mut u32,
-        mem_len: usize,
-        table: *const u32,
-        table_len: usize,
-    ) -> u32;
-    fn bench_back(
-        b: *mut Bench,
-        mem: *mut u32,
-        mem_len: usize,
-        table: *const u32,
-        table_len: usize,
-    ) -> u32;
-    fn bench_forward_batch(
-        b: *mut Bench,
-        n: u32,
-        mem: *mut u32,
-        mem_len: usize,
-        table: *const u32,
-        table_len: usize,
-    ) -> Cranked;
-    fn bench_back_batch(
-        b: *mut Bench,
-        n: u32,
-        mem: *mut u32,
-        mem_len: usize,
-        table: *const u32,
-        table_len: usize,
-    ) -> Cranked;
-    fn bench_samples(
-        b: *mut Bench,
-        given: u8,
-        samples: *const u8,
-        samples_len: usize,
-        mem: *mut u32,
-        mem_len: usize,
-        table: *const u32,
-        table_len: usize,
-    ) -> Sampled;
     fn crank_load(
         file: *const u8,
         file_len: usize,
@@ -438,88 +375,5 @@ pub fn make_table(
             scratch.as_mut_ptr(),
             scratch.len(),
         )
-    }
-}
-
-impl Bench {
-    /// One turn forward; gives its refusal.
-    pub fn forward(&mut self, mem: &mut [u32], table: &[u32]) -> u32 {
-        // SAFETY: self and the slices are live and not aliased.
-        unsafe {
-            bench_forward(
-                self,
-                mem.as_mut_ptr(),
-                mem.len(),
-                table.as_ptr(),
-                table.len(),
-            )
-        }
-    }
-
-    /// One turn back; gives its refusal.
-    pub fn back(&mut self, mem: &mut [u32], table: &[u32]) -> u32 {
-        // SAFETY: self and the slices are live and not aliased.
-        unsafe {
-            bench_back(
-                self,
-                mem.as_mut_ptr(),
-                mem.len(),
-                table.as_ptr(),
-                table.len(),
-            )
-        }
-    }
-
-    /// `n` turns forward, by the rules of [`forward_batch`].
-    pub fn forward_batch(&mut self, n: u32, mem: &mut [u32], table: &[u32]) -> Cranked {
-        // SAFETY: self and the slices are live and not aliased.
-        unsafe {
-            bench_forward_batch(
-                self,
-                n,
-                mem.as_mut_ptr(),
-                mem.len(),
-                table.as_ptr(),
-                table.len(),
-            )
-        }
-    }
-
-    /// `n` turns back, likewise.
-    pub fn back_batch(&mut self, n: u32, mem: &mut [u32], table: &[u32]) -> Cranked {
-        // SAFETY: self and the slices are live and not aliased.
-        unsafe {
-            bench_back_batch(
-                self,
-                n,
-                mem.as_mut_ptr(),
-                mem.len(),
-                table.as_ptr(),
-                table.len(),
-            )
-        }
-    }
-
-    /// Turns as encoder samples say, by the rules of [`samples`].
-    pub fn samples(
-        &mut self,
-        given: u8,
-        samples: &[u8],
-        mem: &mut [u32],
-        table: &[u32],
-    ) -> Sampled {
-        // SAFETY: self and the slices are live and not aliased.
-        unsafe {
-            bench_samples(
-                self,
-                given,
-                samples.as_ptr(),
-                samples.len(),
-                mem.as_mut_ptr(),
-                mem.len(),
-                table.as_ptr(),
-                table.len(),
-            )
-        }
     }
 }

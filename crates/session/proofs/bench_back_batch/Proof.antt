@@ -1,10 +1,11 @@
--- `session::bench_back_batch` meets its contract: Crank's walk, at `Record::back_batch`. Assumes nothing.
+-- `session::bench_back_batch` meets its contract: Altering's walk, at `inside::back_batch`. Assumes nothing.
 use Rattle.step.specs.declared.Direction.the-variants.{Back}
-use Rattle.machine.specs.Machine.{leftAs}
+use Rattle.machine.specs.Machine.{machineOf}
 use Rattle.machine.specs.Batch.{BatchPromise}
-use Rattle.machine.proofs.Record.back_batch.Met as g-thm
-use Rattle.session.proofs.Form.{batch}
-use Rattle.session.proofs.Crank.{crank-spec}
+use Rattle.session.proofs.inside.back_batch.Met as g-thm
+use Rattle.session.proofs.Forms.{batch}
+use Rattle.session.proofs.Answers.{after-batch}
+use Rattle.session.proofs.Altering.{alter-spec}
 use Rattle.session.proofs.bench_back_batch.Key as key
 use Rattle.session.proofs.bench_back_batch.Statement as stated
 use Rattle.session.proofs.bench_back_batch.Code as code
@@ -12,4 +13,5 @@ use Rattle.session.proofs.bench_back_batch.Code as code
 pub bench-back-batch-spec : {M : Type 1} → stated.statement M
 unfolding code.routine
 bench-back-batch-spec 𝓤 H 𝓜 𝓖 𝓡 =
-    crank-spec batch _ (λ n x a mem. BatchPromise Back n x (a .turns) (a .refusal) (leftAs x (a .state) mem)) 𝓤 H 𝓜 𝓖 𝓡 code.env key.name (code.unfolded 𝓤 H 𝓜 𝓡) (g-thm.met 𝓤 H 𝓜 𝓖 𝓡)
+    alter-spec batch after-batch _ (λ v v′ h a. BatchPromise Back (v .0) (machineOf (h .state) (v .1 .0) (v .1 .1 .0)) (a .answer .turns) (a .answer .refusal) (machineOf (a .bench .state) (v′ .1 .0) (v′ .1 .1 .0))) 𝓤 H 𝓜 𝓖 𝓡
+    code.env key.name (code.unfolded 𝓤 H 𝓜 𝓡) (g-thm.met 𝓤 H 𝓜 𝓖 𝓡)
