@@ -7,7 +7,7 @@ use native.Mathlib.Omega.{arith}
 use lib.Dec.{leb}
 use lib.ListN.{length, getD, take, drop, length-append}
 use lib.Seq.{take-at, take-all, drop-at, length-take-le, getD-append-add}
-use borrow.Author.Tests.{le-ltb, le-leb, eq-eqb}
+use borrow.Author.Tests.{le-ltb, le-leb, eq-eqb, ne-eqb}
 use Rattle.word.specs.Lists.{same}
 use Rattle.word.specs.Refusal.{refuse}
 use Rattle.word.proofs.Lists.{same-self}
@@ -20,7 +20,7 @@ use Rattle.machine.specs.Machine.{statusOf, positioned, Machine, State, stateOf
 use Rattle.image.specs.declared.kinds.Kind.{Kind}
 use Rattle.image.specs.Format.{bytesOf, wordAt, wordsOf, kinds, newest, oldest, kindBy, backAt, mAt, kAt, nAt, regsAt, qifvAt, qifwAt, positionAt, wordCount, trailerLength, backOf, further, tailWords, trailerWords, trailerBytes, recordIn, kept, keptIn, image, lastBytes, kindOf, trailerIn, stateIn, trailerOf}
 use Rattle.image.specs.Load.{maxFile, fileRefusal, loadRefusal, imageIn, filled, LoadPromise, prefaceOf}
-use Rattle.image.specs.Claims.{Backs, Row, KindsFound, TakesBoth, Keeps, restored, ReadsAs, Savable, ImageLength, ImageLoads, LoadedSaves, SaveAccepts, SavedLoads}
+use Rattle.image.specs.Claims.{Backs, Row, KindsFound, TakesBoth, Keeps, restored, ReadsAs, Savable, ImageLength, ImageLoads, RefusedLoads, LoadedSaves, SaveAccepts, SavedLoads}
 use Rattle.image.proofs.Bytes.{length-bytes, length-words, bytes-append, read-back, words-back}
 use Rattle.machine.proofs.Given.{words-take}
 use Rattle.image.proofs.Given.{words-cons, words-append}
@@ -223,6 +223,9 @@ saved-loads x out out′ s =
           (subst (λ (r : Record). ReadsAs (p ++ i) p (record { state = r; words = stateOf x .words; links = stateOf x .links })) (keeps .newest (x .state) (v .bounds .turn .position))
           (reads-back newest x row v p h)),
     )
+
+pub refused-loads : RefusedLoads
+refused-loads s a b n x p h = p .machine ∙ rw (← p .refusal, ne-eqb n 0 h)
 
 pub loaded-saves : LoadedSaves
 unfolding badSizes

@@ -1,6 +1,7 @@
 -- The laws of images: what load refuses and answers, and that it reads back what save writes.
 use Prim.Native.Nat.{ℕ, _+_, _*_, _<_, _≤_}
 use mathlib.Core.Path.{_≡_}
+use mathlib.Core.Logic.{_≢_}
 use mathlib.Core.Bool.{true, false}
 use mathlib.Core.List.{List, [], _∷_, _++_}
 use lib.IntN.{pos, negsuc}
@@ -67,6 +68,10 @@ pub record LoadOrder : Type 0 where
 -- Claim: of a file of the first kind, whatever else is in it, a load answers position 0, accepted or refused
 abbrev pub OldPosition : Type 0
 OldPosition = (s a b : List ℕ) (n : ℕ) (x : Machine) → LoadPromise s a b n x → lastBytes 4 s ≡ qrm1 .last → x .state .position ≡ pos 0
+
+-- Claim: a refused load answers a record of zeros, and leaves the lent words as they were
+abbrev pub RefusedLoads : Type 0
+RefusedLoads = (s a b : List ℕ) (n : ℕ) (x : Machine) → LoadPromise s a b n x → n ≢ 0 → x ≡ machineOf zeros a b
 
 -- Claim: what an accepted load leaves is of right sizes: with room, save accepts it
 abbrev pub LoadedSaves : Type 0

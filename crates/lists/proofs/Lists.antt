@@ -11,13 +11,14 @@ use Rattle.step.specs.declared.Direction.{Direction}
 use Rattle.step.specs.declared.Direction.the-variants.{Forward, Back}
 use Rattle.step.specs.View.{byWay}
 use Rattle.step.specs.Step.{number}
-use Rattle.machine.specs.Machine.{Machine, State, stateOf, excessOf, Bounded}
+use Rattle.machine.specs.Machine.{Machine, machineOf, State, stateOf, excessOf, Bounded}
 use Rattle.machine.specs.Calls.{TurnPromise, accepted, refusal, next}
 use Rattle.machine.specs.Batch.{after, BatchPromise}
 use Rattle.machine.proofs.Claims.{planIn, nextIn, next-state, next-excess, refused-keeps, turn-home}
 use Rattle.machine.proofs.Batches.{batches-complete}
+use Rattle.image.proofs.RoundTrip.{refused-loads}
 use Rattle.lists.specs.Lists.{Call, Left, SlippedIn, Straight, Right, LeftAndRight}
-use Rattle.lists.specs.Lists.Call.{single, batch, samples, reads}
+use Rattle.lists.specs.Lists.Call.{single, batch, samples, reads, refusedLoad}
 use Rattle.lists.specs.Lists.Left.{empty, then}
 use Rattle.lists.specs.Lists.Slipped.{ends, both, slip}
 use Rattle.lists.specs.Lists.Straight.{none, turn}
@@ -60,12 +61,17 @@ turn-on : {x y z : Machine} {f b n : ℕ} {d : Direction} → Tour f b x y → T
     → Tour (byWay d (accepted n) 0 + f) (byWay d 0 (accepted n) + b) x z
 turn-on {n = n} {d = d} t p = R.then-run Machine Accepts next Bounded turn-home d (accepted n) t (p .bounds) (single-run p)
 
+no-turn : {x y : Machine} {f b : ℕ} → Tour f b x y → Tour (0 + f) (0 + b) x y
+no-turn {x = x} {y = y} {f = f} {b = b} t = subst₂ (λ (i j : ℕ). Tour i j x y) (omega arith) (omega arith) t
+
 go-on : {x y z : Machine} {f b p q : ℕ} → Tour f b x y → Call y p q z → Tour (p + f) (q + b) x z
 go-on t (single d y z n p) = turn-on t p
 go-on t (batch d n y z k w p) = R.then-run Machine Accepts next Bounded turn-home d k t (p .bounds) (batch-run p)
 go-on {x = x} t (samples given l y z c p) =
     by-turns (λ f b z. Tour f b x z) (λ d f b y z n u h. turn-on u h) t (call-turns given l y p)
-go-on {x = x} {f = f} {b = b} t (reads y h) = subst₂ (λ (i j : ℕ). Tour i j x y) (omega arith) (omega arith) t
+go-on {x = x} {f = f} {b = b} t (reads y h) = no-turn t
+go-on {x = x} {f = f} {b = b} t (refusedLoad file y z n p h) =
+    subst (Tour (0 + f) (0 + b) x) (sym (ap (λ (u : Machine). machineOf (y .state) (u .memory) (u .table)) (refused-loads file (y .memory) (y .table) n z p h))) (no-turn t)
 
 pub tour : {x y : Machine} {f b : ℕ} → Left x f b y → Tour f b x y
 tour empty = R.Tour.empty

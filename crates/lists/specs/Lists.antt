@@ -1,32 +1,43 @@
 -- Demand 3 (document 01, "Left and Right"): one claim about whole lists of calls. Proved in proofs/Lists.
 use Prim.Native.Nat.{ℕ, suc, _+_, _-_, _≤_}
 use mathlib.Core.Path.{_≡_}
+use mathlib.Core.Logic.{_≢_}
 use mathlib.Core.List.{List}
 use lib.IntN.{pos, _+ℤ_, _-ℤ_}
 use Rattle.step.specs.declared.Direction.{Direction}
 use Rattle.step.specs.declared.Direction.the-variants.{Forward, Back}
 use Rattle.step.specs.View.{byWay}
-use Rattle.machine.specs.Machine.{Machine, stateOf, excessOf}
+use Rattle.machine.specs.Machine.{Machine, machineOf, stateOf, excessOf}
 use Rattle.machine.specs.Calls.{TurnPromise, accepted, Leads}
 use Rattle.machine.specs.Batch.{BatchPromise}
 use Rattle.machine.specs.Preview.{PreviewPromise}
 use Rattle.machine.specs.declared.Preview.{Preview}
 use Rattle.wheel.specs.Wheel.{Counts, WheelPromise}
+use Rattle.links.specs.Check.{checkOf, checkNodeOf}
+use Rattle.links.specs.declared.Checked.{Checked}
+use Rattle.image.specs.Load.{LoadPromise}
+use Rattle.image.specs.Save.{SavePromise}
 
 -- ---- Left: a list of calls
 
 -- A call from x that turns nothing: the record goes by value, memory and table are lent for reading only.
 pub data Reading (x : Machine) : Type 0 where
   preview : (d : Direction) (a : Preview) → PreviewPromise d x a → Reading x
+  save : (out out′ : List ℕ) (n : ℕ) → SavePromise x out n out′ → Reading x
+  check : (a : Checked) → a ≡ checkOf x → Reading x
+  checkNode : (node n : ℕ) → n ≡ checkNodeOf x node → Reading x
 
 -- One call from x: its accepted turns forward and back, and the machine that it leaves, with what it promises. A single turn
 -- counts its acceptance, a batch counts its k, this way alone; samples count what their answer says, both ways. A call that turns
--- nothing counts nothing, and leaves the machine.
+-- nothing counts nothing, and leaves the machine. So does a refused load: its caller keeps the record, with the lent words as it
+-- left them.
 pub data Call : Machine → ℕ → ℕ → Machine → Type 0 where
   single : (d : Direction) (x y : Machine) (n : ℕ) → TurnPromise d x n y → Call x (byWay d (accepted n) 0) (byWay d 0 (accepted n)) y
   batch : (d : Direction) (n : ℕ) (x y : Machine) (k w : ℕ) → BatchPromise d n x k w y → Call x (byWay d k 0) (byWay d 0 k) y
   samples : (given : ℕ) (l : List ℕ) (x y : Machine) (c : Counts) → WheelPromise given l x c y → Call x (c .forward) (c .back) y
   reads : (x : Machine) → Reading x → Call x 0 0 x
+  refusedLoad : (file : List ℕ) (x y : Machine) (n : ℕ) → LoadPromise file (x .memory) (x .table) n y → n ≢ 0
+      → Call x 0 0 (machineOf (x .state) (y .memory) (y .table))
 
 -- Calls from x to y, each on what the last one left, with all accepted turns forward, f, and back, b. The list may be empty.
 pub data Left : Machine → ℕ → ℕ → Machine → Type 0 where
