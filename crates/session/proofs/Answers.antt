@@ -79,13 +79,11 @@ after-turn = record {
   answer = λ t. t .answer;
   both = λ h r. record { bench = h; answer = r };
   both-is = λ t. refl;
+  val-is = λ t. refl;
   bench-at = refl;
-  place-of = _;
+  offset = _;
   answer-at = refl;
-  bench-in = λ t. refl;
-  answer-in = λ t. refl;
-  is-bench = λ t vs is. LL.owed AT.the-type AT′.the-laws t vs is .0;
-  is-answer = λ t vs is. LL.owed AT.the-type AT′.the-laws t vs is .1 .0;
+  are = λ t vs is. let o = LL.owed AT.the-type AT′.the-laws t vs is in (o .0, o .1 .0);
 }
 
 abbrev pub after-batch : After cranked
@@ -96,13 +94,11 @@ after-batch = record {
   answer = λ t. t .answer;
   both = λ h r. record { bench = h; answer = r };
   both-is = λ t. refl;
+  val-is = λ t. refl;
   bench-at = refl;
-  place-of = _;
+  offset = _;
   answer-at = refl;
-  bench-in = λ t. refl;
-  answer-in = λ t. refl;
-  is-bench = λ t vs is. LL.owed AB.the-type AB′.the-laws t vs is .0;
-  is-answer = λ t vs is. LL.owed AB.the-type AB′.the-laws t vs is .1 .0;
+  are = λ t vs is. let o = LL.owed AB.the-type AB′.the-laws t vs is in (o .0, o .1 .0);
 }
 
 abbrev pub after-samples : After sampled
@@ -113,13 +109,11 @@ after-samples = record {
   answer = λ t. t .answer;
   both = λ h r. record { bench = h; answer = r };
   both-is = λ t. refl;
+  val-is = λ t. refl;
   bench-at = refl;
-  place-of = _;
+  offset = _;
   answer-at = refl;
-  bench-in = λ t. refl;
-  answer-in = λ t. refl;
-  is-bench = λ t vs is. LL.owed AS.the-type AS′.the-laws t vs is .0;
-  is-answer = λ t vs is. LL.owed AS.the-type AS′.the-laws t vs is .1 .0;
+  are = λ t vs is. let o = LL.owed AS.the-type AS′.the-laws t vs is in (o .0, o .1 .0);
 }
 
 abbrev pub after-load : After loaded
@@ -130,13 +124,11 @@ after-load = record {
   answer = λ t. t .answer;
   both = λ h r. record { bench = h; answer = r };
   both-is = λ t. refl;
+  val-is = λ t. refl;
   bench-at = refl;
-  place-of = _;
+  offset = _;
   answer-at = refl;
-  bench-in = λ t. refl;
-  answer-in = λ t. refl;
-  is-bench = λ t vs is. LL.owed AL.the-type AL′.the-laws t vs is .0;
-  is-answer = λ t vs is. LL.owed AL.the-type AL′.the-laws t vs is .1 .0;
+  are = λ t vs is. let o = LL.owed AL.the-type AL′.the-laws t vs is in (o .0, o .1 .0);
 }
 
 abbrev pub after-make : After tabled
@@ -147,11 +139,9 @@ after-make = record {
   answer = λ t. t .answer;
   both = λ h r. record { bench = h; answer = r };
   both-is = λ t. refl;
+  val-is = λ t. refl;
   bench-at = refl;
-  place-of = _;
+  offset = _;
   answer-at = refl;
-  bench-in = λ t. refl;
-  answer-in = λ t. refl;
-  is-bench = λ t vs is. LL.owed AM.the-type AM′.the-laws t vs is .0;
-  is-answer = λ t vs is. LL.owed AM.the-type AM′.the-laws t vs is .1 .0;
+  are = λ t vs is. let o = LL.owed AM.the-type AM′.the-laws t vs is in (o .0, o .1 .0);
 }

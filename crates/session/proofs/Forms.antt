@@ -87,24 +87,27 @@ module _ (ps : List Param) where
     abbrev pub Callee : (H : Heap 𝓤) → Atoms 𝓤 → Contract 𝓤
     Callee H A = tripleOf 𝓤 H A (callee R .signature) (closing 𝓤 H A (callee R) callee-asks)
 
-  -- ---- the call: the bench's own lifetime comes first
+  -- ---- the call, in which the bench's own lifetime comes first
 
   abbrev pub CallLfts : Type 0
   CallLfts = Lfts (suc (lifetimes ps))
 
+  abbrev pub others : CallLfts → Lfts (lifetimes ps)
+  others κs = κs .1
+
   abbrev pub Further : CallLfts → Type 0
-  Further κs = Handed (suc (lifetimes ps)) κs ps 1 (λ κs. κs .1)
+  Further κs = Handed (suc (lifetimes ps)) κs ps 1 others
 
   abbrev pub Last : (κs : CallLfts) → Further κs → Type 0
-  Last κs z = Lasts (suc (lifetimes ps)) κs ps 1 (λ κs. κs .1) z
+  Last κs z = Lasts (suc (lifetimes ps)) κs ps 1 others z
 
   abbrev pub further : List (Slot (suc (lifetimes ps)))
-  further = slots (suc (lifetimes ps)) ps 1 (λ κs. κs .1)
+  further = slots (suc (lifetimes ps)) ps 1 others
 
   -- what is said of the bench s, of the answer r and of the last values
   abbrev pub Holds : {X : Type 0} → Says ps X → (κs : CallLfts) → Bench → (z : Further κs) → X → Last κs z → Type 0
   Holds Said κs s z r ws =
-      Said (entry (suc (lifetimes ps)) κs ps 1 (λ κs. κs .1) z) (exit (suc (lifetimes ps)) κs ps 1 (λ κs. κs .1) (outs κs further (all yes further) z ws)) s r
+      Said (entry (suc (lifetimes ps)) κs ps 1 others z) (exit (suc (lifetimes ps)) κs ps 1 others (outs κs further (all yes further) z ws)) s r
 
   module _ {M : Type 1} (𝓤 : URA M) (A : Atoms 𝓤) (κs : CallLfts) (qs : Shares (suc (lifetimes ps))) where
     -- of all lifetimes except the bench's
@@ -113,7 +116,7 @@ module _ (ps : List Param) where
 
     module _ (s : Bench) (z : Further κs) where
       abbrev pub taken : Item 𝓤
-      taken = (tokens ⊛ ‵ (fsep (B.the-row .own s (bench-val s ∷ [])) (owns (typesAt further κs) z (values (suc (lifetimes ps)) κs ps 1 (λ κs. κs .1) z)))) ⊛ ‵ ftrue
+      taken = (tokens ⊛ ‵ (fsep (B.the-row .own s (bench-val s ∷ [])) (owns (typesAt further κs) z (values (suc (lifetimes ps)) κs ps 1 others z)))) ⊛ ‵ ftrue
 
       abbrev pub given-back : (R : RattleType) → Says ps (R .Denot) → Val → Item 𝓤
       given-back R Said v =
@@ -124,7 +127,7 @@ module _ (ps : List Param) where
   abbrev pub Called : Type 2
   Called = (M : Type 1) (𝓤 : URA M) (H : Heap 𝓤) (A : Atoms 𝓤) (R : RattleType) (Said : Says ps (R .Denot)) (κs : CallLfts) (qs : Shares (suc (lifetimes ps))) (s : Bench) (z : Further κs) (run : Fun 𝓤)
       → Triple 𝓤 run (Callee 𝓤 R Said H A)
-      → ent 𝓤 (mean 𝓤 H A (taken 𝓤 A κs qs s z)) (run (bench-val s ∷ passed (suc (lifetimes ps)) κs ps 1 (λ κs. κs .1) z) (λ v. mean 𝓤 H A (given-back 𝓤 A κs qs s z R Said v)))
+      → ent 𝓤 (mean 𝓤 H A (taken 𝓤 A κs qs s z)) (run (bench-val s ∷ passed (suc (lifetimes ps)) κs ps 1 others z) (λ v. mean 𝓤 H A (given-back 𝓤 A κs qs s z R Said v)))
 
 -- ---- the forms
 

@@ -47,7 +47,7 @@ use Rattle.session.proofs.Bench.Laws as B′
 use Rattle.session.proofs.Params as param
 use Rattle.session.proofs.Params.{Param, Env, lifetimes, values, passed, Fit, locals, locals-again, env-again, before, past, relend, operands}
 use Rattle.session.proofs.Rules.{At, here, there, at-next, at-past, finds, freed, alloc-params, pass-params, free-params, alloc-again, free-again, relends, shown, reads-params}
-use Rattle.session.proofs.Forms.{Answer, bench-val, entry, exit, Says, shape, Callee, CallLfts, Further, Last, further, Holds, tokens, taken, given-back, Form}
+use Rattle.session.proofs.Forms.{Answer, bench-val, entry, exit, Says, shape, Callee, CallLfts, others, Further, Last, further, Holds, tokens, taken, given-back, Form}
 
 -- ---- the code
 
@@ -68,14 +68,14 @@ module _ (ps : List Param) where
   -- ---- the contract
 
   abbrev ended : RattleType → Ended
-  ended R = shape ps (suc (lifetimes ps)) 1 (λ κs. κs .1) (shrRefTo (0 ∷ []) tt (plain (λ _. B.the-row))) R
+  ended R = shape ps (suc (lifetimes ps)) 1 (others ps) (shrRefTo (0 ∷ []) tt (plain (λ _. B.the-row))) R
 
   module _ {M : Type 1} (𝓤 : URA M) (R : RattleType) (Said : Says ps (R .Denot)) where
     abbrev look-asks : Clauses 𝓤 (ended R)
     look-asks κs a = record {
       ghost = Unit {0};
       requires = λ _. emp 𝓤;
-      ensures = λ _ r e. fact 𝓤 (Said (entry (suc (lifetimes ps)) κs ps 1 (λ κs. κs .1) (a .1)) (exit (suc (lifetimes ps)) κs ps 1 (λ κs. κs .1) (e .1)) (now (a .0)) r);
+      ensures = λ _ r e. fact 𝓤 (Said (entry (suc (lifetimes ps)) κs ps 1 (others ps) (a .1)) (exit (suc (lifetimes ps)) κs ps 1 (others ps) (e .1)) (now (a .0)) r);
     }
 
     abbrev Look : (H : Heap 𝓤) → Atoms 𝓤 → Contract 𝓤
@@ -104,7 +104,7 @@ module _ (F : Form) (X : Answer) (key : Name) (Said : Says (F .params) (X .row .
     h = bench .now
 
     abbrev y : Bound 𝓤 H A (ended ps R .signature)
-    y = (κs, qs, tt, (bench, z), (vptr b o ∷ [], values n κs ps 1 (λ κs. κs .1) z))
+    y = (κs, qs, tt, (bench, z), (vptr b o ∷ [], values n κs ps 1 (others ps) z))
 
     -- what is had once the locals are freed, which shows the contract's end
     abbrev Remains : R .Denot → Val → Last ps κs z → List (Item 𝓤)
@@ -121,17 +121,17 @@ module _ (F : Form) (X : Answer) (key : Name) (Said : Says (F .params) (X .row .
         says ! e $ move ! (1 ∷ 2 ∷ []) $ drop ! $ drop ! $ nothing ! $ fjoin ! $ done !
 
     module _ (𝓣 : Tables 𝓤 H) (known : Triple 𝓤 (𝓣 .C key) (Callee ps 𝓤 R Said H A)) where
-      walk : Fit n κs ps 1 (λ κs. κs .1) z
-          → ent 𝓤 (onEntry 𝓤 H A (ended ps R .signature) κs qs (bench, z) (y .4)) (WpFn 𝓤 H (𝓣 .C) (𝓣 .Λ) (look-code ps (X .mir) key) (vptr b o ∷ passed n κs ps 1 (λ κs. κs .1) z) (Look ps 𝓤 R Said H A .post (y, tt)))
+      walk : Fit n κs ps 1 (others ps) z
+          → ent 𝓤 (onEntry 𝓤 H A (ended ps R .signature) κs qs (bench, z) (y .4)) (WpFn 𝓤 H (𝓣 .C) (𝓣 .Λ) (look-code ps (X .mir) key) (vptr b o ∷ passed n κs ps 1 (others ps) z) (Look ps 𝓤 R Said H A .post (y, tt)))
       walk fit =
           qed W ((‵ (flft (κs .0) (qs .0)) ⊛ tokens ps 𝓤 A κs qs) ∷ ‵ (owns (typesAt (ended ps R .signature .params) κs) (bench, z) (y .4)) ∷ []) ∵
-          enter ! (𝓣 .C) (𝓣 .Λ) (look-code ps (X .mir) key) (vptr b o ∷ passed n κs ps 1 (λ κs. κs .1) z) _ $
+          enter ! (𝓣 .C) (𝓣 .Λ) (look-code ps (X .mir) key) (vptr b o ∷ passed n κs ps 1 (others ps) z) _ $
           alloc1 ! (λ l₀. alloc1 ! (λ l₁. alloc-params ! ps 1 (λ ls. alloc1 ! (λ l₂. alloc-again ! ps (λ ts.
           let Fs : Env = (B′.mir, l₂) ∷ env-again ps ts in
           let E : Env = (X .mir, l₀) ∷ (tyRef (named 0) imm (pointee (B.the-row .written)), l₁) ∷ before ps 1 ls Fs in
           let a : At (before ps 1 ls Fs) E 2 = there (there here) in
           let c : At Fs E (past ps 2) = at-past ps 1 ls a in
-          params1 ! $ pass1 ! (init ! 6 refl (tt, tt)) $ move ! (4 ∷ []) $ pass-params ! n κs ps 1 (λ κs. κs .1) ls z fit $ pass0 ! $
+          params1 ! $ pass1 ! (init ! 6 refl (tt, tt)) $ move ! (4 ∷ []) $ pass-params ! n κs ps 1 (others ps) ls z fit $ pass0 ! $
           -- the bench's borrow is looked into, for a copy of the bench
           move ! (11 ∷ []) $ fsplit ! $ fsplit3 ! $ drop ! $ move ! (13 ∷ []) $ split ! $ move ! (3 ∷ 0 ∷ []) $
           looks ! tt B.the-row (Is B.the-row) (shows 𝓤 H A B.the-row) (LL.vals B.the-type B′.the-laws) (LL.tells B.the-type B′.the-laws) (LL.copy B.the-type B′.the-copy 𝓤 H A W) h b o (λ q vs.
@@ -140,19 +140,19 @@ module _ (F : Form) (X : Answer) (key : Name) (Said : Says (F .params) (X .row .
           assigns ! (of-opd ! (load ! (from ! (hop ! (look ! 13 refl) (stop !))) (look-raw ! 0 refl))) (finds ! c (stop !)) (init ! 10 refl (LL.lawful B.the-type B′.the-laws 𝓤 H A W .typed h _ was .0)) $
           shuts ! tt B.the-row q h (bench-val h ∷ []) b o $
           -- [the bench's token; its borrow; the other tokens; res; what the others own; their cells; room for what is lent again; …]
-          move ! (5 ∷ 6 ∷ []) $ relends ! n κs ps 1 (λ κs. κs .1) ls ts z Fs a (at-next c) fit $
+          move ! (5 ∷ 6 ∷ []) $ relends ! n κs ps 1 (others ps) ls ts z Fs a (at-next c) fit $
           -- what the function by value takes is put together
           move ! (6 ∷ []) $ owned ! B.the-row (Is B.the-row) (LL.makes B.the-type B′.the-plain 𝓤 H A) h _ was $ fjoin ! $ nothing ! $ move ! (6 ∷ 1 ∷ 0 ∷ []) $ join ! $ join ! $
           -- [that; the cells of the others; of what is lent again; the bench's token; its borrow; res; …; the copy; …]
           calls-from ! (fmOf 𝓤 H (W .laws) 𝓣) (taken ps 𝓤 A κs qs h z) _ _ (F .called M 𝓤 H A R Said κs qs h z (𝓣 .C key) known)
-          (and-then ! (load ! (finds ! c (stop !)) (look ! 7 refl)) (reads-params ! n κs ps 1 (λ κs. κs .1) ls ts z Fs a (at-next c) (shown ! 1 refl) (shown ! 2 refl))) (λ w.
+          (and-then ! (load ! (finds ! c (stop !)) (look ! 7 refl)) (reads-params ! n κs ps 1 (others ps) ls ts z Fs a (at-next c) (shown ! 1 refl) (shown ! 2 refl))) (λ w.
           use1 W (given-back ps 𝓤 A κs qs h z R Said w) (id⊢ 𝓤 _) $
           await ! tt $ pick ! (λ t. split ! $ split ! $ move ! (2 ∷ []) $ pick ! (λ ws. split ! $ move ! (1 ∷ []) $ heard ! (Holds ps Said κs h z t (ws .1)) (λ e. fsplit ! $ drop ! $ move ! (2 ∷ []) $
           peeks ! R (Is R) (shows 𝓤 H A R) t (w ∷ []) (λ is.
           -- [the answer; what is said of the last values; the tokens; the cells of the others; of what is lent again; the bench's token; its borrow; res; …]
           land ! (from ! (stop !)) (init ! 14 refl (X .typed M 𝓤 H A W t w is)) $ returns ! (look ! 14 refl) $
-          move ! (14 ∷ 15 ∷ []) $ freed ! $ move ! (12 ∷ 13 ∷ []) $ freed ! $ move ! (3 ∷ 11 ∷ []) $ free-params ! n κs ps 1 (λ κs. κs .1) ls z $ move ! (8 ∷ 9 ∷ []) $ freed ! $
-          move ! (3 ∷ 7 ∷ []) $ free-again ! n κs ps 1 (λ κs. κs .1) ts z $
+          move ! (14 ∷ 15 ∷ []) $ freed ! $ move ! (12 ∷ 13 ∷ []) $ freed ! $ move ! (3 ∷ 11 ∷ []) $ free-params ! n κs ps 1 (others ps) ls z $ move ! (8 ∷ 9 ∷ []) $ freed ! $
+          move ! (3 ∷ 7 ∷ []) $ free-again ! n κs ps 1 (others ps) ts z $
           by ! (exits t w (ws .1) e)))))))))))))
 
   -- ---- and to the contract
@@ -162,7 +162,7 @@ module _ (F : Form) (X : Answer) (key : Name) (Said : Says (F .params) (X .row .
   meets 𝓤 H A W 𝓣 known y =
       let κs : CallLfts ps = y .0 .0 in
       via 𝓤 _ (fst∗ 𝓤 _ (emp 𝓤))
-      (at-entry 𝓤 H A (ended ps R .signature) κs (y .0 .1) (ptr-vals, param.spells n κs ps 1 (λ κs. κs .1)) (shr-tells (named 0) (κs .0) B.the-row, param.tells n κs ps 1 (λ κs. κs .1)) (y .0 .3)
+      (at-entry 𝓤 H A (ended ps R .signature) κs (y .0 .1) (ptr-vals, param.spells n κs ps 1 (others ps)) (shr-tells (named 0) (κs .0) B.the-row, param.tells n κs ps 1 (others ps)) (y .0 .3)
       (λ us. WpFn 𝓤 H (𝓣 .C) (𝓣 .Λ) (look-code ps (X .mir) key) (flat (typesAt (ended ps R .signature .params) κs) us) (Look ps 𝓤 R Said H A .post y)) (y .0 .4)
       (λ are. walk 𝓤 H A W κs (y .0 .1) (y .0 .3 .0) (y .0 .3 .1) 𝓣 known (are .1)))
 
