@@ -1,5 +1,5 @@
-// The calls with the bench by value. Each takes it apart and uses the call on what is inside; one that alters the
-// bench answers what it has become, and what its caller is told.
+// The calls by value. Each is asked with the bench as it stands, takes that apart and uses the call on what is inside;
+// one that alters the bench answers what it has become, and what its caller is told.
 ghost use mathlib.Core.Path.{_≡_};
 ghost use Rattle.step.specs.declared.Direction.{Direction};
 ghost use Rattle.machine.specs.Lent.{atEntry, atExit};
@@ -18,6 +18,11 @@ use crate::Tabled;
 use image::Loaded;
 use links::Checked;
 use machine::Preview;
+
+// What every call is asked with.
+pub(crate) struct Asked {
+    pub(crate) bench: Bench,
+}
 
 pub(crate) struct AfterTurn {
     pub(crate) bench: Bench,
@@ -46,9 +51,10 @@ pub(crate) struct AfterMake {
 
 // ---- turns
 
-pub(crate) fn forward(b: Bench, mem: &mut [u32], table: &[u32]) -> AfterTurn
-    ensures { λ a. ⌜ TurnPromise Direction.Forward (atEntry (b .state) mem table) (a .answer) (atExit (a .bench .state) mem table) ⌝ }
+pub(crate) fn forward(asked: Asked, mem: &mut [u32], table: &[u32]) -> AfterTurn
+    ensures { λ a. ⌜ TurnPromise Direction.Forward (atEntry (asked .bench .state) mem table) (a .answer) (atExit (a .bench .state) mem table) ⌝ }
 {
+    let b = asked.bench;
     let r = b.state;
     let t = r.forward(mem, table);
     let state = t.state;
@@ -59,9 +65,10 @@ pub(crate) fn forward(b: Bench, mem: &mut [u32], table: &[u32]) -> AfterTurn
     }
 }
 
-pub(crate) fn back(b: Bench, mem: &mut [u32], table: &[u32]) -> AfterTurn
-    ensures { λ a. ⌜ TurnPromise Direction.Back (atEntry (b .state) mem table) (a .answer) (atExit (a .bench .state) mem table) ⌝ }
+pub(crate) fn back(asked: Asked, mem: &mut [u32], table: &[u32]) -> AfterTurn
+    ensures { λ a. ⌜ TurnPromise Direction.Back (atEntry (asked .bench .state) mem table) (a .answer) (atExit (a .bench .state) mem table) ⌝ }
 {
+    let b = asked.bench;
     let r = b.state;
     let t = r.back(mem, table);
     let state = t.state;
@@ -74,9 +81,10 @@ pub(crate) fn back(b: Bench, mem: &mut [u32], table: &[u32]) -> AfterTurn
 
 // ---- batches
 
-pub(crate) fn forward_batch(b: Bench, n: u32, mem: &mut [u32], table: &[u32]) -> AfterBatch
-    ensures { λ a. ⌜ BatchPromise Direction.Forward n (atEntry (b .state) mem table) (a .answer .turns) (a .answer .refusal) (atExit (a .bench .state) mem table) ⌝ }
+pub(crate) fn forward_batch(asked: Asked, n: u32, mem: &mut [u32], table: &[u32]) -> AfterBatch
+    ensures { λ a. ⌜ BatchPromise Direction.Forward n (atEntry (asked .bench .state) mem table) (a .answer .turns) (a .answer .refusal) (atExit (a .bench .state) mem table) ⌝ }
 {
+    let b = asked.bench;
     let r = b.state;
     let t = r.forward_batch(n, mem, table);
     let state = t.state;
@@ -88,9 +96,10 @@ pub(crate) fn forward_batch(b: Bench, n: u32, mem: &mut [u32], table: &[u32]) ->
     AfterBatch { bench, answer }
 }
 
-pub(crate) fn back_batch(b: Bench, n: u32, mem: &mut [u32], table: &[u32]) -> AfterBatch
-    ensures { λ a. ⌜ BatchPromise Direction.Back n (atEntry (b .state) mem table) (a .answer .turns) (a .answer .refusal) (atExit (a .bench .state) mem table) ⌝ }
+pub(crate) fn back_batch(asked: Asked, n: u32, mem: &mut [u32], table: &[u32]) -> AfterBatch
+    ensures { λ a. ⌜ BatchPromise Direction.Back n (atEntry (asked .bench .state) mem table) (a .answer .turns) (a .answer .refusal) (atExit (a .bench .state) mem table) ⌝ }
 {
+    let b = asked.bench;
     let r = b.state;
     let t = r.back_batch(n, mem, table);
     let state = t.state;
@@ -105,14 +114,15 @@ pub(crate) fn back_batch(b: Bench, n: u32, mem: &mut [u32], table: &[u32]) -> Af
 // ---- samples
 
 pub(crate) fn samples(
-    b: Bench,
+    asked: Asked,
     given: u8,
     samples: &[u8],
     mem: &mut [u32],
     table: &[u32],
 ) -> AfterSamples
-    ensures { λ a. ⌜ WheelPromise given (now (samples .entry)) (atEntry (b .state) mem table) (countsIn (a .answer)) (atExit (a .bench .state) mem table) ⌝ }
+    ensures { λ a. ⌜ WheelPromise given (now (samples .entry)) (atEntry (asked .bench .state) mem table) (countsIn (a .answer)) (atExit (a .bench .state) mem table) ⌝ }
 {
+    let b = asked.bench;
     let t = wheel::follow(b.state, given, samples, mem, table);
     let state = t.state;
     let bench = Bench { state };
@@ -128,9 +138,10 @@ pub(crate) fn samples(
 
 // ---- load and make
 
-pub(crate) fn load(b: Bench, file: &[u8], mem: &mut [u32], table: &mut [u32]) -> AfterLoad
-    ensures { λ a. ⌜ BenchLoadPromise (now (file .entry)) (atEntry (b .state) mem table) (a .answer) (atExit (a .bench .state) mem table) ⌝ }
+pub(crate) fn load(asked: Asked, file: &[u8], mem: &mut [u32], table: &mut [u32]) -> AfterLoad
+    ensures { λ a. ⌜ BenchLoadPromise (now (file .entry)) (atEntry (asked .bench .state) mem table) (a .answer) (atExit (a .bench .state) mem table) ⌝ }
 {
+    let b = asked.bench;
     let answer = image::load(file, mem, table);
     if answer.refusal != 0 {
         return AfterLoad { bench: b, answer };
@@ -141,14 +152,15 @@ pub(crate) fn load(b: Bench, file: &[u8], mem: &mut [u32], table: &mut [u32]) ->
 }
 
 pub(crate) fn make_table(
-    b: Bench,
+    asked: Asked,
     limit: u32,
     mem: &mut [u32],
     table: &mut [u32],
     scratch: &mut [u32],
 ) -> AfterMake
-    ensures { λ a. ⌜ MakePromise (atEntry (b .state) mem table) limit (now (scratch .entry)) (a .answer .refusal) (a .answer .cycles) (atExit (a .bench .state) mem table) (now (scratch .exit)) ⌝ }
+    ensures { λ a. ⌜ MakePromise (atEntry (asked .bench .state) mem table) limit (now (scratch .entry)) (a .answer .refusal) (a .answer .cycles) (atExit (a .bench .state) mem table) (now (scratch .exit)) ⌝ }
 {
+    let b = asked.bench;
     let t = maker::make(b.state, limit, mem, table, scratch);
     let state = t.state;
     let bench = Bench { state };
@@ -161,34 +173,39 @@ pub(crate) fn make_table(
 
 // ---- calls that only look
 
-pub(crate) fn preview_forward(b: Bench, mem: &[u32], table: &[u32]) -> Preview
-    ensures { λ a. ⌜ PreviewPromise Direction.Forward (atEntry (b .state) mem table) a ⌝ }
+pub(crate) fn preview_forward(asked: Asked, mem: &[u32], table: &[u32]) -> Preview
+    ensures { λ a. ⌜ PreviewPromise Direction.Forward (atEntry (asked .bench .state) mem table) a ⌝ }
 {
+    let b = asked.bench;
     let r = b.state;
     r.preview_forward(mem, table)
 }
 
-pub(crate) fn preview_back(b: Bench, mem: &[u32], table: &[u32]) -> Preview
-    ensures { λ a. ⌜ PreviewPromise Direction.Back (atEntry (b .state) mem table) a ⌝ }
+pub(crate) fn preview_back(asked: Asked, mem: &[u32], table: &[u32]) -> Preview
+    ensures { λ a. ⌜ PreviewPromise Direction.Back (atEntry (asked .bench .state) mem table) a ⌝ }
 {
+    let b = asked.bench;
     let r = b.state;
     r.preview_back(mem, table)
 }
 
-pub(crate) fn save(b: Bench, mem: &[u32], table: &[u32], out: &mut [u8]) -> u32
-    ensures { λ a. ⌜ SavePromise (atEntry (b .state) mem table) (now (out .entry)) a (now (out .exit)) ⌝ }
+pub(crate) fn save(asked: Asked, mem: &[u32], table: &[u32], out: &mut [u8]) -> u32
+    ensures { λ a. ⌜ SavePromise (atEntry (asked .bench .state) mem table) (now (out .entry)) a (now (out .exit)) ⌝ }
 {
+    let b = asked.bench;
     image::save(b.state, mem, table, out)
 }
 
-pub(crate) fn check(b: Bench, mem: &[u32], table: &[u32]) -> Checked
-    ensures { λ a. ⌜ a ≡ checkOf (atEntry (b .state) mem table) ⌝ }
+pub(crate) fn check(asked: Asked, mem: &[u32], table: &[u32]) -> Checked
+    ensures { λ a. ⌜ a ≡ checkOf (atEntry (asked .bench .state) mem table) ⌝ }
 {
+    let b = asked.bench;
     links::check(b.state, mem, table)
 }
 
-pub(crate) fn check_node(b: Bench, node: u32, mem: &[u32], table: &[u32]) -> u32
-    ensures { λ a. ⌜ a ≡ checkNodeOf (atEntry (b .state) mem table) node ⌝ }
+pub(crate) fn check_node(asked: Asked, node: u32, mem: &[u32], table: &[u32]) -> u32
+    ensures { λ a. ⌜ a ≡ checkNodeOf (atEntry (asked .bench .state) mem table) node ⌝ }
 {
+    let b = asked.bench;
     links::check_node(b.state, node, mem, table)
 }

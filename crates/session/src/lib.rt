@@ -1,5 +1,5 @@
 // The lesson bench: one record, lent by `&mut` to the calls that alter it and by `&` to those that only look. Each
-// call takes the bench by value, asks what is inside it, puts back what it has become, and answers.
+// call asks the call by value with a copy of it, puts back what it has become, and answers.
 ghost use mathlib.Core.Path.{_≡_};
 ghost use Rattle.step.specs.declared.Direction.{Direction};
 ghost use Rattle.machine.specs.Calls.{TurnPromise};
@@ -14,6 +14,7 @@ ghost use Rattle.session.specs.Bench.{benchAtEntry, benchAtExit, countsI
 mod inside;
 
 use image::Loaded;
+use inside::Asked;
 use links::Checked;
 use machine::Preview;
 use machine::Record;
@@ -55,8 +56,9 @@ pub struct Tabled {
 pub extern "C" fn bench_forward(b: &mut Bench, mem: &mut [u32], table: &[u32]) -> u32
     ensures { λ r. ⌜ TurnPromise Direction.Forward (benchAtEntry b mem table) r (benchAtExit b mem table) ⌝ }
 {
-    let h = *b;
-    let t = inside::forward(h, mem, table);
+    let bench = *b;
+    let asked = Asked { bench };
+    let t = inside::forward(asked, mem, table);
     *b = t.bench;
     t.answer
 }
@@ -66,8 +68,9 @@ pub extern "C" fn bench_forward(b: &mut Bench, mem: &mut [u32], table: &[u32]) -
 pub extern "C" fn bench_back(b: &mut Bench, mem: &mut [u32], table: &[u32]) -> u32
     ensures { λ r. ⌜ TurnPromise Direction.Back (benchAtEntry b mem table) r (benchAtExit b mem table) ⌝ }
 {
-    let h = *b;
-    let t = inside::back(h, mem, table);
+    let bench = *b;
+    let asked = Asked { bench };
+    let t = inside::back(asked, mem, table);
     *b = t.bench;
     t.answer
 }
@@ -82,8 +85,9 @@ pub extern "C" fn bench_forward_batch(
 ) -> Cranked
     ensures { λ r. ⌜ BatchPromise Direction.Forward n (benchAtEntry b mem table) (r .turns) (r .refusal) (benchAtExit b mem table) ⌝ }
 {
-    let h = *b;
-    let t = inside::forward_batch(h, n, mem, table);
+    let bench = *b;
+    let asked = Asked { bench };
+    let t = inside::forward_batch(asked, n, mem, table);
     *b = t.bench;
     t.answer
 }
@@ -93,8 +97,9 @@ pub extern "C" fn bench_forward_batch(
 pub extern "C" fn bench_back_batch(b: &mut Bench, n: u32, mem: &mut [u32], table: &[u32]) -> Cranked
     ensures { λ r. ⌜ BatchPromise Direction.Back n (benchAtEntry b mem table) (r .turns) (r .refusal) (benchAtExit b mem table) ⌝ }
 {
-    let h = *b;
-    let t = inside::back_batch(h, n, mem, table);
+    let bench = *b;
+    let asked = Asked { bench };
+    let t = inside::back_batch(asked, n, mem, table);
     *b = t.bench;
     t.answer
 }
@@ -110,8 +115,9 @@ pub extern "C" fn bench_samples(
 ) -> Sampled
     ensures { λ r. ⌜ WheelPromise given (now (samples .entry)) (benchAtEntry b mem table) (countsIn r) (benchAtExit b mem table) ⌝ }
 {
-    let h = *b;
-    let t = inside::samples(h, given, samples, mem, table);
+    let bench = *b;
+    let asked = Asked { bench };
+    let t = inside::samples(asked, given, samples, mem, table);
     *b = t.bench;
     t.answer
 }
@@ -126,8 +132,9 @@ pub extern "C" fn bench_load(
 ) -> Loaded
     ensures { λ r. ⌜ BenchLoadPromise (now (file .entry)) (benchAtEntry b mem table) r (benchAtExit b mem table) ⌝ }
 {
-    let h = *b;
-    let t = inside::load(h, file, mem, table);
+    let bench = *b;
+    let asked = Asked { bench };
+    let t = inside::load(asked, file, mem, table);
     *b = t.bench;
     t.answer
 }
@@ -143,8 +150,9 @@ pub extern "C" fn bench_make_table(
 ) -> Tabled
     ensures { λ r. ⌜ MakePromise (benchAtEntry b mem table) limit (now (scratch .entry)) (r .refusal) (r .cycles) (benchAtExit b mem table) (now (scratch .exit)) ⌝ }
 {
-    let h = *b;
-    let t = inside::make_table(h, limit, mem, table, scratch);
+    let bench = *b;
+    let asked = Asked { bench };
+    let t = inside::make_table(asked, limit, mem, table, scratch);
     *b = t.bench;
     t.answer
 }
@@ -156,8 +164,9 @@ pub extern "C" fn bench_make_table(
 pub extern "C" fn bench_preview_forward(b: &Bench, mem: &[u32], table: &[u32]) -> Preview
     ensures { λ r. ⌜ PreviewPromise Direction.Forward (benchAtEntry b mem table) r ⌝ }
 {
-    let h = *b;
-    inside::preview_forward(h, mem, table)
+    let bench = *b;
+    let asked = Asked { bench };
+    inside::preview_forward(asked, mem, table)
 }
 
 // The turn back, likewise.
@@ -165,8 +174,9 @@ pub extern "C" fn bench_preview_forward(b: &Bench, mem: &[u32], table: &[u32]) -
 pub extern "C" fn bench_preview_back(b: &Bench, mem: &[u32], table: &[u32]) -> Preview
     ensures { λ r. ⌜ PreviewPromise Direction.Back (benchAtEntry b mem table) r ⌝ }
 {
-    let h = *b;
-    inside::preview_back(h, mem, table)
+    let bench = *b;
+    let asked = Asked { bench };
+    inside::preview_back(asked, mem, table)
 }
 
 // Writes the image to the front of out; the answer is the refusal.
@@ -174,8 +184,9 @@ pub extern "C" fn bench_preview_back(b: &Bench, mem: &[u32], table: &[u32]) -> P
 pub extern "C" fn bench_save(b: &Bench, mem: &[u32], table: &[u32], out: &mut [u8]) -> u32
     ensures { λ r. ⌜ SavePromise (benchAtEntry b mem table) (now (out .entry)) r (now (out .exit)) ⌝ }
 {
-    let h = *b;
-    inside::save(h, mem, table, out)
+    let bench = *b;
+    let asked = Asked { bench };
+    inside::save(asked, mem, table, out)
 }
 
 // The check of the code words and of all links.
@@ -183,8 +194,9 @@ pub extern "C" fn bench_save(b: &Bench, mem: &[u32], table: &[u32], out: &mut [u
 pub extern "C" fn bench_check(b: &Bench, mem: &[u32], table: &[u32]) -> Checked
     ensures { λ r. ⌜ r ≡ checkOf (benchAtEntry b mem table) ⌝ }
 {
-    let h = *b;
-    inside::check(h, mem, table)
+    let bench = *b;
+    let asked = Asked { bench };
+    inside::check(asked, mem, table)
 }
 
 // The check of one node's links.
@@ -192,6 +204,7 @@ pub extern "C" fn bench_check(b: &Bench, mem: &[u32], table: &[u32]) -> Checked
 pub extern "C" fn bench_check_node(b: &Bench, node: u32, mem: &[u32], table: &[u32]) -> u32
     ensures { λ r. ⌜ r ≡ checkNodeOf (benchAtEntry b mem table) node ⌝ }
 {
-    let h = *b;
-    inside::check_node(h, node, mem, table)
+    let bench = *b;
+    let asked = Asked { bench };
+    inside::check_node(asked, node, mem, table)
 }

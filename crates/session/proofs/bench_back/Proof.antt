@@ -13,5 +13,5 @@ use Rattle.session.proofs.bench_back.Code as code
 pub bench-back-spec : {M : Type 1} → stated.statement M
 unfolding code.routine
 bench-back-spec 𝓤 H 𝓜 𝓖 𝓡 =
-    alter-spec turn after-turn _ (λ v v′ h a. TurnPromise Back (machineOf (h .state) (v .0) (v .1 .0)) (a .answer) (machineOf (a .bench .state) (v′ .0) (v′ .1 .0))) 𝓤 H 𝓜 𝓖 𝓡
+    alter-spec turn after-turn _ (λ v v′ s a. TurnPromise Back (machineOf (s .bench .state) (v .0) (v .1 .0)) (a .answer) (machineOf (a .bench .state) (v′ .0) (v′ .1 .0))) 𝓤 H 𝓜 𝓖 𝓡
     code.env key.name (code.unfolded 𝓤 H 𝓜 𝓡) (g-thm.met 𝓤 H 𝓜 𝓖 𝓡)

@@ -13,5 +13,5 @@ use Rattle.session.proofs.bench_back_batch.Code as code
 pub bench-back-batch-spec : {M : Type 1} → stated.statement M
 unfolding code.routine
 bench-back-batch-spec 𝓤 H 𝓜 𝓖 𝓡 =
-    alter-spec batch after-batch _ (λ v v′ h a. BatchPromise Back (v .0) (machineOf (h .state) (v .1 .0) (v .1 .1 .0)) (a .answer .turns) (a .answer .refusal) (machineOf (a .bench .state) (v′ .1 .0) (v′ .1 .1 .0))) 𝓤 H 𝓜 𝓖 𝓡
+    alter-spec batch after-batch _ (λ v v′ s a. BatchPromise Back (v .0) (machineOf (s .bench .state) (v .1 .0) (v .1 .1 .0)) (a .answer .turns) (a .answer .refusal) (machineOf (a .bench .state) (v′ .1 .0) (v′ .1 .1 .0))) 𝓤 H 𝓜 𝓖 𝓡
     code.env key.name (code.unfolded 𝓤 H 𝓜 𝓡) (g-thm.met 𝓤 H 𝓜 𝓖 𝓡)

@@ -13,5 +13,5 @@ use Rattle.session.proofs.bench_check.Code as code
 pub bench-check-spec : {M : Type 1} → stated.statement M
 unfolding code.routine
 bench-check-spec 𝓤 H 𝓜 𝓖 𝓡 =
-    look-spec show checked _ (λ v v′ h a. a ≡ checkOf (machineOf (h .state) (v .0) (v .1 .0))) 𝓤 H 𝓜 𝓖 𝓡
+    look-spec show checked _ (λ v v′ s a. a ≡ checkOf (machineOf (s .bench .state) (v .0) (v .1 .0))) 𝓤 H 𝓜 𝓖 𝓡
     code.env key.name (code.unfolded 𝓤 H 𝓜 𝓡) (g-thm.met 𝓤 H 𝓜 𝓖 𝓡)

@@ -13,5 +13,5 @@ use Rattle.session.proofs.bench_check_node.Code as code
 pub bench-check-node-spec : {M : Type 1} → stated.statement M
 unfolding code.routine
 bench-check-node-spec 𝓤 H 𝓜 𝓖 𝓡 =
-    look-spec node refusal _ (λ v v′ h a. a ≡ checkNodeOf (machineOf (h .state) (v .1 .0) (v .1 .1 .0)) (v .0)) 𝓤 H 𝓜 𝓖 𝓡
+    look-spec node refusal _ (λ v v′ s a. a ≡ checkNodeOf (machineOf (s .bench .state) (v .1 .0) (v .1 .1 .0)) (v .0)) 𝓤 H 𝓜 𝓖 𝓡
     code.env key.name (code.unfolded 𝓤 H 𝓜 𝓡) (g-thm.met 𝓤 H 𝓜 𝓖 𝓡)

@@ -12,5 +12,5 @@ use Rattle.session.proofs.bench_load.Code as code
 pub bench-load-spec : {M : Type 1} → stated.statement M
 unfolding code.routine
 bench-load-spec 𝓤 H 𝓜 𝓖 𝓡 =
-    alter-spec load after-load _ (λ v v′ h a. BenchLoadPromise (v .0) (machineOf (h .state) (v .1 .0) (v .1 .1 .0)) (a .answer) (machineOf (a .bench .state) (v′ .1 .0) (v′ .1 .1 .0))) 𝓤 H 𝓜 𝓖 𝓡
+    alter-spec load after-load _ (λ v v′ s a. BenchLoadPromise (v .0) (machineOf (s .bench .state) (v .1 .0) (v .1 .1 .0)) (a .answer) (machineOf (a .bench .state) (v′ .1 .0) (v′ .1 .1 .0))) 𝓤 H 𝓜 𝓖 𝓡
     code.env key.name (code.unfolded 𝓤 H 𝓜 𝓡) (g-thm.met 𝓤 H 𝓜 𝓖 𝓡)

@@ -12,5 +12,5 @@ use Rattle.session.proofs.bench_make_table.Code as code
 pub bench-make-table-spec : {M : Type 1} → stated.statement M
 unfolding code.routine
 bench-make-table-spec 𝓤 H 𝓜 𝓖 𝓡 =
-    alter-spec make after-make _ (λ v v′ h a. MakePromise (machineOf (h .state) (v .1 .0) (v .1 .1 .0)) (v .0) (v .1 .1 .1 .0) (a .answer .refusal) (a .answer .cycles) (machineOf (a .bench .state) (v′ .1 .0) (v′ .1 .1 .0)) (v′ .1 .1 .1 .0)) 𝓤 H 𝓜 𝓖 𝓡
+    alter-spec make after-make _ (λ v v′ s a. MakePromise (machineOf (s .bench .state) (v .1 .0) (v .1 .1 .0)) (v .0) (v .1 .1 .1 .0) (a .answer .refusal) (a .answer .cycles) (machineOf (a .bench .state) (v′ .1 .0) (v′ .1 .1 .0)) (v′ .1 .1 .1 .0)) 𝓤 H 𝓜 𝓖 𝓡
     code.env key.name (code.unfolded 𝓤 H 𝓜 𝓡) (g-thm.met 𝓤 H 𝓜 𝓖 𝓡)

@@ -12,5 +12,5 @@ use Rattle.session.proofs.bench_save.Code as code
 pub bench-save-spec : {M : Type 1} → stated.statement M
 unfolding code.routine
 bench-save-spec 𝓤 H 𝓜 𝓖 𝓡 =
-    look-spec save refusal _ (λ v v′ h a. SavePromise (machineOf (h .state) (v .0) (v .1 .0)) (v .1 .1 .0) a (v′ .1 .1 .0)) 𝓤 H 𝓜 𝓖 𝓡
+    look-spec save refusal _ (λ v v′ s a. SavePromise (machineOf (s .bench .state) (v .0) (v .1 .0)) (v .1 .1 .0) a (v′ .1 .1 .0)) 𝓤 H 𝓜 𝓖 𝓡
     code.env key.name (code.unfolded 𝓤 H 𝓜 𝓡) (g-thm.met 𝓤 H 𝓜 𝓖 𝓡)
