@@ -29,7 +29,7 @@ use Rattle.session.proofs.Bench as B
 use Rattle.session.proofs.Bench.Laws as B′
 use Rattle.session.proofs.inside.Asked as Q
 use Rattle.session.proofs.inside.Asked.Laws as Q′
-use Rattle.session.proofs.Params.{Param, number, read, lent, lives, lifetimes, life, later as lifes-after, slots, Handed, Lasts, Left, values, passed}
+use Rattle.session.proofs.Params.{Param, number, read, lent, lifetimes, slots, Handed, Lasts, Left, values, passed}
 
 abbrev pub bench-val : Bench → Val
 bench-val h = LL.val B.the-type B′.the-laws h
