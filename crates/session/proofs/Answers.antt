@@ -2,10 +2,8 @@
 use mathlib.Core.Path.{refl}
 use mir.Syntax.{w32, tyInt}
 use mir.Val.{vint}
-use denote.Plain.{uint-lawful, uint-makes}
+use denote.Plain.{uint-tells, uint-lawful, uint-makes}
 use denote.Builtin.{u32}
-use denote.Struct.Struct.{layout, Plains}
-use denote.Struct.Declared.{Declared, fields, shape, row}
 use denote.Struct.Laws as LL
 use Rattle.machine.proofs.Preview as Q
 use Rattle.machine.proofs.Preview.Laws as Q′
@@ -29,7 +27,7 @@ use Rattle.session.proofs.inside.AfterLoad as AL
 use Rattle.session.proofs.inside.AfterLoad.Laws as AL′
 use Rattle.session.proofs.inside.AfterMake as AM
 use Rattle.session.proofs.inside.AfterMake.Laws as AM′
-use Rattle.session.proofs.Forms.{Answer}
+use Rattle.session.proofs.Forms.{Answer, struct-answer}
 use Rattle.session.proofs.Altering.{After}
 
 abbrev pub refusal : Answer
@@ -37,37 +35,28 @@ refusal = record {
   row = u32;
   mir = tyInt w32;
   val = vint w32;
+  tells = uint-tells w32;
   typed = λ M 𝓤 H A W x v is. uint-lawful 𝓤 H A W w32 .typed x _ is .0;
   makes = λ M 𝓤 H A W. uint-makes 𝓤 H A W w32;
 }
 
--- a struct
-abbrev struct : (S : Declared) → LL.Laws S → Plains (fields S) → Answer
-struct S ls pl = record {
-  row = row S;
-  mir = layout (shape S);
-  val = LL.val S ls;
-  typed = λ M 𝓤 H A W x v is. LL.lawful S ls 𝓤 H A W .typed x _ is .0;
-  makes = λ M 𝓤 H A W. LL.makes S pl 𝓤 H A;
-}
-
 abbrev pub preview : Answer
-preview = struct Q.the-type Q′.the-laws Q′.the-plain
+preview = struct-answer Q.the-type Q′.the-laws Q′.the-plain
 
 abbrev pub checked : Answer
-checked = struct C.the-type C′.the-laws C′.the-plain
+checked = struct-answer C.the-type C′.the-laws C′.the-plain
 
 abbrev pub cranked : Answer
-cranked = struct K.the-type K′.the-laws K′.the-plain
+cranked = struct-answer K.the-type K′.the-laws K′.the-plain
 
 abbrev pub sampled : Answer
-sampled = struct P.the-type P′.the-laws P′.the-plain
+sampled = struct-answer P.the-type P′.the-laws P′.the-plain
 
 abbrev pub loaded : Answer
-loaded = struct L.the-type L′.the-laws L′.the-plain
+loaded = struct-answer L.the-type L′.the-laws L′.the-plain
 
 abbrev pub tabled : Answer
-tabled = struct T.the-type T′.the-laws T′.the-plain
+tabled = struct-answer T.the-type T′.the-laws T′.the-plain
 
 -- ---- with the bench
 
@@ -75,6 +64,7 @@ abbrev pub after-turn : After refusal
 after-turn = record {
   type = AT.the-type;
   laws = AT′.the-laws;
+  plains = AT′.the-plain;
   bench = λ t. t .bench;
   answer = λ t. t .answer;
   both = λ h r. record { bench = h; answer = r };
@@ -90,6 +80,7 @@ abbrev pub after-batch : After cranked
 after-batch = record {
   type = AB.the-type;
   laws = AB′.the-laws;
+  plains = AB′.the-plain;
   bench = λ t. t .bench;
   answer = λ t. t .answer;
   both = λ h r. record { bench = h; answer = r };
@@ -105,6 +96,7 @@ abbrev pub after-samples : After sampled
 after-samples = record {
   type = AS.the-type;
   laws = AS′.the-laws;
+  plains = AS′.the-plain;
   bench = λ t. t .bench;
   answer = λ t. t .answer;
   both = λ h r. record { bench = h; answer = r };
@@ -120,6 +112,7 @@ abbrev pub after-load : After loaded
 after-load = record {
   type = AL.the-type;
   laws = AL′.the-laws;
+  plains = AL′.the-plain;
   bench = λ t. t .bench;
   answer = λ t. t .answer;
   both = λ h r. record { bench = h; answer = r };
@@ -135,6 +128,7 @@ abbrev pub after-make : After tabled
 after-make = record {
   type = AM.the-type;
   laws = AM′.the-laws;
+  plains = AM′.the-plain;
   bench = λ t. t .bench;
   answer = λ t. t .answer;
   both = λ h r. record { bench = h; answer = r };

@@ -14,9 +14,11 @@ use contract.Monad.{Fun, fact}
 use contract.Lifetimes.{Lfts, Shares, toks}
 use types.Kit.{Given, Item, ‵, raw, some, later, mean, _⊛_}
 use denote.RattleType.{RattleType, owns}
-use denote.Laws.{Is, Makes}
+use denote.Laws.{Is, Tells, Makes}
 use denote.Ref.{now}
 use denote.Signature.{Slot, plain, typesAt}
+use denote.Struct.Struct.{layout, Plains}
+use denote.Struct.Declared.{Declared, fields, shape as shape-of, row as row-of}
 use denote.Struct.Laws as LL
 use denote.Triple.Clauses.{Ended, Clauses, closing}
 use denote.Triple.End.{all, outs, lastsOf}
@@ -44,13 +46,25 @@ asked-val s = LL.val Q.the-type Q′.the-laws s
 pub is-asked : (h : Bench) → Is B.the-row h (bench-val h ∷ []) → Is Q.the-row (askedOf h) (asked-val (askedOf h) ∷ [])
 is-asked h is = LL.owes Q.the-type Q′.the-laws (askedOf h) (is, tt)
 
--- what a function answers: its type, of one machine value, and that this is of its MIR type and is all there is to it
+-- what a function answers: its type, of one machine value, what that is, that it is of its MIR type, and that it is all there is to it
 pub record Answer : Type 2 where
   pub row : RattleType
   pub mir : Ty
   pub val : row .Denot → Val
+  pub tells : Tells row (Is row) (λ x. val x ∷ [])
   pub typed : (M : Type 1) (𝓤 : URA M) (H : Heap 𝓤) (A : Atoms 𝓤) → Given 𝓤 H A → (x : row .Denot) (v : Val) → Is row x (v ∷ []) → T (hasTy mir v) × WT v
   pub makes : (M : Type 1) (𝓤 : URA M) (H : Heap 𝓤) (A : Atoms 𝓤) → Given 𝓤 H A → Makes 𝓤 H A row (Is row)
+
+-- a struct that owns only facts
+abbrev pub struct-answer : (S : Declared) → LL.Laws S → Plains (fields S) → Answer
+struct-answer S ls pl = record {
+  row = row-of S;
+  mir = layout (shape-of S);
+  val = LL.val S ls;
+  tells = LL.tells S ls;
+  typed = λ M 𝓤 H A W x v is. LL.lawful S ls 𝓤 H A W .typed x _ is .0;
+  makes = λ M 𝓤 H A W. LL.makes S pl 𝓤 H A;
+}
 
 -- ---- what is handed on, as numbers and lists of them: at entry, and as a contract sees it at exit
 

@@ -2,6 +2,7 @@ pub mod Params
 pub mod Rules
 pub mod Loads
 pub mod Forms
+pub mod Walk
 pub mod Looking
 pub mod Altering
 pub mod Answers

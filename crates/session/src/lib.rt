@@ -166,7 +166,8 @@ pub extern "C" fn bench_preview_forward(b: &Bench, mem: &[u32], table: &[u32]) -
 {
     let bench = *b;
     let asked = Asked { bench };
-    inside::preview_forward(asked, mem, table)
+    let t = inside::preview_forward(asked, mem, table);
+    t
 }
 
 // The turn back, likewise.
@@ -176,7 +177,8 @@ pub extern "C" fn bench_preview_back(b: &Bench, mem: &[u32], table: &[u32]) -> P
 {
     let bench = *b;
     let asked = Asked { bench };
-    inside::preview_back(asked, mem, table)
+    let t = inside::preview_back(asked, mem, table);
+    t
 }
 
 // Writes the image to the front of out; the answer is the refusal.
@@ -186,7 +188,8 @@ pub extern "C" fn bench_save(b: &Bench, mem: &[u32], table: &[u32], out: &mut [u
 {
     let bench = *b;
     let asked = Asked { bench };
-    inside::save(asked, mem, table, out)
+    let t = inside::save(asked, mem, table, out);
+    t
 }
 
 // The check of the code words and of all links.
@@ -196,7 +199,8 @@ pub extern "C" fn bench_check(b: &Bench, mem: &[u32], table: &[u32]) -> Checked
 {
     let bench = *b;
     let asked = Asked { bench };
-    inside::check(asked, mem, table)
+    let t = inside::check(asked, mem, table);
+    t
 }
 
 // The check of one node's links.
@@ -206,5 +210,6 @@ pub extern "C" fn bench_check_node(b: &Bench, node: u32, mem: &[u32], table: &[u
 {
     let bench = *b;
     let asked = Asked { bench };
-    inside::check_node(asked, node, mem, table)
+    let t = inside::check_node(asked, node, mem, table);
+    t
 }

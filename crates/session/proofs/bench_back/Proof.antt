@@ -1,4 +1,4 @@
--- `session::bench_back` meets its contract: Altering's walk, at `inside::back`. Assumes nothing.
+-- `session::bench_back` meets its contract: the walk with Altering's end, at `inside::back`. Assumes nothing.
 use Rattle.step.specs.declared.Direction.the-variants.{Back}
 use Rattle.machine.specs.Machine.{machineOf}
 use Rattle.machine.specs.Calls.{TurnPromise}

@@ -1,4 +1,4 @@
--- `session::bench_back_batch` meets its contract: Altering's walk, at `inside::back_batch`. Assumes nothing.
+-- `session::bench_back_batch` meets its contract: the walk with Altering's end, at `inside::back_batch`. Assumes nothing.
 use Rattle.step.specs.declared.Direction.the-variants.{Back}
 use Rattle.machine.specs.Machine.{machineOf}
 use Rattle.machine.specs.Batch.{BatchPromise}

@@ -1,4 +1,4 @@
--- `session::bench_check` meets its contract: Looking's walk, at `inside::check`. Assumes nothing.
+-- `session::bench_check` meets its contract: the walk with Looking's end, at `inside::check`. Assumes nothing.
 use mathlib.Core.Path.{_≡_}
 use Rattle.machine.specs.Machine.{machineOf}
 use Rattle.links.specs.Check.{checkOf}

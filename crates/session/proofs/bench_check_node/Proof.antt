@@ -1,4 +1,4 @@
--- `session::bench_check_node` meets its contract: Looking's walk, at `inside::check_node`. Assumes nothing.
+-- `session::bench_check_node` meets its contract: the walk with Looking's end, at `inside::check_node`. Assumes nothing.
 use mathlib.Core.Path.{_≡_}
 use Rattle.machine.specs.Machine.{machineOf}
 use Rattle.links.specs.Check.{checkNodeOf}

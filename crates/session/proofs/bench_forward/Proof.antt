@@ -1,4 +1,4 @@
--- `session::bench_forward` meets its contract: Altering's walk, at `inside::forward`. Assumes nothing.
+-- `session::bench_forward` meets its contract: the walk with Altering's end, at `inside::forward`. Assumes nothing.
 use Rattle.step.specs.declared.Direction.the-variants.{Forward}
 use Rattle.machine.specs.Machine.{machineOf}
 use Rattle.machine.specs.Calls.{TurnPromise}

@@ -1,4 +1,4 @@
--- `session::bench_load` meets its contract: Altering's walk, at `inside::load`. Assumes nothing.
+-- `session::bench_load` meets its contract: the walk with Altering's end, at `inside::load`. Assumes nothing.
 use Rattle.machine.specs.Machine.{machineOf}
 use Rattle.session.specs.Bench.{BenchLoadPromise}
 use Rattle.session.proofs.inside.load.Met as g-thm

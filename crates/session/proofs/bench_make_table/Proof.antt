@@ -1,4 +1,4 @@
--- `session::bench_make_table` meets its contract: Altering's walk, at `inside::make_table`. Assumes nothing.
+-- `session::bench_make_table` meets its contract: the walk with Altering's end, at `inside::make_table`. Assumes nothing.
 use Rattle.machine.specs.Machine.{machineOf}
 use Rattle.maker.specs.Make.{MakePromise}
 use Rattle.session.proofs.inside.make_table.Met as g-thm

@@ -1,4 +1,4 @@
--- `session::bench_preview_forward` meets its contract: Looking's walk, at `inside::preview_forward`. Assumes nothing.
+-- `session::bench_preview_forward` meets its contract: the walk with Looking's end, at `inside::preview_forward`. Assumes nothing.
 use Rattle.step.specs.declared.Direction.the-variants.{Forward}
 use Rattle.machine.specs.Machine.{machineOf}
 use Rattle.machine.specs.Preview.{PreviewPromise}

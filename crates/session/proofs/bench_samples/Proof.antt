@@ -1,4 +1,4 @@
--- `session::bench_samples` meets its contract: Altering's walk, at `inside::samples`. Assumes nothing.
+-- `session::bench_samples` meets its contract: the walk with Altering's end, at `inside::samples`. Assumes nothing.
 use Rattle.machine.specs.Machine.{machineOf}
 use Rattle.wheel.specs.Wheel.{WheelPromise}
 use Rattle.session.specs.Bench.{countsIn}

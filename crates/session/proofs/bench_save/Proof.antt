@@ -1,4 +1,4 @@
--- `session::bench_save` meets its contract: Looking's walk, at `inside::save`. Assumes nothing.
+-- `session::bench_save` meets its contract: the walk with Looking's end, at `inside::save`. Assumes nothing.
 use Rattle.machine.specs.Machine.{machineOf}
 use Rattle.image.specs.Save.{SavePromise}
 use Rattle.session.proofs.inside.save.Met as g-thm
