@@ -3,9 +3,9 @@
 #
 # Compiles the header alone, as C and, where there is a C++ compiler, as C++;
 # looks in it for a declaration of every call that the static libraries in the
-# folder LIBRARIES export; links roundtrip.c with those of the calls and runs it
-# on the images; then does what docs/CALLS.md says. Exits with 1 where one of
-# these fails.
+# folder LIBRARIES export; links roundtrip.c with those of the calls, as both, and
+# runs it on the images, which must make every call; then does what docs/CALLS.md
+# says. Exits with 1 where one of these fails.
 
 if [ $# -lt 2 ]; then
     echo "usage: check.sh LIBRARIES IMAGE..." >&2
@@ -31,9 +31,9 @@ compile() {
     "$@" -Wall -Wextra -Werror -pedantic -I"$include"
 }
 
-# The calls that the libraries export, one a line.
+# exported LIBRARY...: the calls that these export, one per line
 exported() {
-    for library in capi session program; do
+    for library; do
         nm -g --defined-only "$libraries/lib$library.a"
     done | awk '$2 == "T" { print $3 }'
 }
@@ -49,16 +49,28 @@ fi
 # Preprocessed, since comments mention calls too.
 compile "$cc" -std=c11 -E -P -x c "$header" >"$scratch/declarations" || fail 'the preprocessor'
 count=0
-for call in $(exported); do
+for call in $(exported capi session program); do
     grep -q "[ *]$call(" "$scratch/declarations" || fail "the header lacks $call"
     count=$((count + 1))
 done
 [ "$count" -gt 0 ] || fail 'the libraries export nothing'
 echo "header: $count calls"
 
-compile "$cc" -std=c11 -O1 -o "$scratch/roundtrip" "$folder/roundtrip.c" \
-    "$libraries/libcapi.a" "$libraries/libsession.a" || fail 'roundtrip.c'
-"$scratch/roundtrip" "$@" || fail 'the round trip'
+# roundtrip COMPILER OPTION...: builds the round trip
+roundtrip() {
+    compile "$@" -O1 -o "$scratch/roundtrip" "$folder/roundtrip.c" "$folder/calls.c" \
+        -x none "$libraries/libcapi.a" "$libraries/libsession.a"
+}
+roundtrip "$cc" -std=c11 -x c || fail 'roundtrip.c'
+"$scratch/roundtrip" "$@" >"$scratch/covered" || fail 'the round trip'
+cat "$scratch/covered"
+for call in $(exported capi session); do
+    grep -q " $call [1-9]" "$scratch/covered" || fail "the round trip makes no $call"
+done
+if [ -n "$cxx" ]; then
+    roundtrip "$cxx" -x c++ || fail 'roundtrip.c as C++'
+    "$scratch/roundtrip" "$@" | cmp -s - "$scratch/covered" || fail 'the round trip as C++'
+fi
 
 # The program of docs/CALLS.md, built and run by the commands there.
 calls=$folder/../../docs/CALLS.md

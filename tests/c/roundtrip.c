@@ -1,10 +1,10 @@
-/* Images through every call of crank.h: each is loaded, turned forward until it is refused and back
- * again, in single turns, in batches and by samples, by value and on the lesson bench, and must then
- * be what it was. Every single turn is previewed and must come to what the preview says, and every
- * accepted turn moves the position by one. Without its table, each has one made, over which it runs as
- * many turns as there are cycles. After that come calls that must be refused, and must leave everything
- * as it was, but for samples, whose turns before the refused one stand, and tables refused on the way,
- * which are zeros. Last comes a small program with every word of its table.
+/* Images through every call of crank.h, by value and on the lesson bench: each is loaded, turned forward
+ * until it is refused and back again, in single turns, in batches and by samples, and must then be what
+ * it was. Every single turn is previewed and must come to what the preview says, the preview the other
+ * way must then lead back, and every accepted turn moves the position by one. Without its table, each has
+ * one made, over which it runs as many turns as there are cycles. After that come calls that must be
+ * refused, and must leave everything as it was, except samples, whose turns before the refused one stand,
+ * and tables refused on the way, which are zeros. Last comes a small program with every word of its table.
  *
  * usage: roundtrip IMAGE...
  *
@@ -12,66 +12,29 @@
  * Its file need have no preface: the program puts some before it. It is taken as it is, and as images
  * of kind 2 at several positions. Ends with 1 at the first difference, and also where no image waits,
  * none has a constant among its code, no preview has a memory word that changes or an exchange that
- * changes none, or some refusal was never met.
+ * changes none, or some refusal was never met. The calls themselves are in calls.c.
  */
 #include <stdio.h>
-#include <stdlib.h>
 #include <string.h>
 
-#include "crank.h"
-
-/* Declared once more: a type that changes in the header alone would convert at each call without a
- * word, and is now no C. */
-Wheeled crank_samples(Record r, uint8_t given, const uint8_t *samples, size_t samples_len,
-                      uint32_t *mem, size_t mem_len, const uint32_t *table, size_t table_len);
-Preview crank_preview_forward(Record r, const uint32_t *mem, size_t mem_len,
-                              const uint32_t *table, size_t table_len);
-Preview crank_preview_back(Record r, const uint32_t *mem, size_t mem_len,
-                           const uint32_t *table, size_t table_len);
-uint32_t crank_check_node(Record r, uint32_t node, const uint32_t *mem, size_t mem_len,
-                          const uint32_t *table, size_t table_len);
-Made crank_make_table(Record r, uint32_t limit, uint32_t *mem, size_t mem_len,
-                      uint32_t *table, size_t table_len, uint32_t *scratch, size_t scratch_len);
+#include "calls.h"
 
 enum {
-    MAX_WORDS = 8192,
-    MAX_NODES = 511,
-    NODE = 9,
-    TABLE = NODE * MAX_NODES, /* words of a made table */
-    SCRATCH = 16, /* words for a memory word, to make one */
-    TRAILER = 100, /* of what a save writes */
-    OLD_TRAILER = 92,
-    MARK = 4, /* its last bytes, which tell the kind */
+    MARK = 4, /* the last bytes of a trailer, which tell the kind */
     MAX_FILE = 65536,
-    MAX_IMAGE = 4 * MAX_WORDS + 36 * MAX_NODES + TRAILER,
     PREFACE = 13, /* not whole words, so a preface counted in words is noticed */
-    EXCESS = 10, /* lent beyond what is needed; room for one node more than there may be */
     MAX_TURNS = 1000000,
-    BEYOND = 3, /* steps of the wheel that are refused at an end of the run */
-    NOISE = 0xA5 /* what lent bytes hold before a call */
+    BEYOND = 3 /* steps of the wheel that are refused at an end of the run */
 };
-
-enum { FORWARD, BACK };
-
-/* All that the calls work on. */
-typedef struct {
-    Bench bench;
-    uint32_t mem_len, table_len; /* how much of the words below is lent */
-    uint32_t mem[MAX_WORDS + EXCESS];
-    uint32_t table[TABLE + EXCESS];
-} Machine;
 
 typedef struct {
     uint8_t bytes[MAX_FILE + 1]; /* room for a file that is too long */
     size_t length;
 } File;
 
-/* Where the program is, for its message. */
-static const char *image = "", *calls = "";
-
 /* What was covered. */
 static unsigned long turned[2], waited, sampled, refused[25], prefaced, empty, positions,
-    nodes, constants, tables, made_nodes;
+    nodes, constants, tables, made_nodes, lessons_kept, lessons_replaced;
 static struct {
     unsigned long made;
     unsigned long words; /* that would change */
@@ -79,104 +42,7 @@ static struct {
     unsigned long refused;
 } previews[2]; /* forward and back */
 
-static void demand(int holds, const char *what)
-{
-    if (!holds) {
-        fprintf(stderr, "roundtrip: %s: %s: %s\n", image, calls, what);
-        exit(1);
-    }
-}
-
-/* By its members: the bytes between them are no one's. */
-static int same_record(const Record *a, const Record *b)
-{
-    return memcmp(a->regs, b->regs, sizeof a->regs) == 0
-        && a->qifv == b->qifv && a->qifw == b->qifw
-        && a->k == b->k && a->m == b->m && a->n == b->n
-        && a->position == b->position;
-}
-
-static int same(const Machine *a, const Machine *b)
-{
-    return same_record(&a->bench.state, &b->bench.state)
-        && a->mem_len == b->mem_len && a->table_len == b->table_len
-        && memcmp(a->mem, b->mem, sizeof a->mem) == 0
-        && memcmp(a->table, b->table, sizeof a->table) == 0;
-}
-
-static int is_noise(const void *bytes, size_t length)
-{
-    for (size_t i = 0; i < length; i++) {
-        if (((const uint8_t *)bytes)[i] != NOISE) {
-            return 0;
-        }
-    }
-    return 1;
-}
-
-/* ---- The calls that turn, all in one form: a single turn answers as a batch of one ---- */
-
-static Cranked turn_by_value(Machine *m, int way, uint32_t n)
-{
-    (void)n;
-    Turned t = (way == FORWARD ? crank_forward : crank_back)(
-        m->bench.state, m->mem, m->mem_len, m->table, m->table_len);
-    m->bench.state = t.state;
-    return (Cranked){.turns = t.refusal == 0, .refusal = t.refusal};
-}
-
-static Cranked batch_by_value(Machine *m, int way, uint32_t n)
-{
-    Batch b = (way == FORWARD ? crank_forward_batch : crank_back_batch)(
-        m->bench.state, n, m->mem, m->mem_len, m->table, m->table_len);
-    m->bench.state = b.state;
-    return (Cranked){.turns = b.turns, .refusal = b.refusal};
-}
-
-static Cranked turn_on_bench(Machine *m, int way, uint32_t n)
-{
-    (void)n;
-    uint32_t refusal = (way == FORWARD ? bench_forward : bench_back)(
-        &m->bench, m->mem, m->mem_len, m->table, m->table_len);
-    return (Cranked){.turns = refusal == 0, .refusal = refusal};
-}
-
-static Cranked batch_on_bench(Machine *m, int way, uint32_t n)
-{
-    return (way == FORWARD ? bench_forward_batch : bench_back_batch)(
-        &m->bench, n, m->mem, m->mem_len, m->table, m->table_len);
-}
-
-typedef struct {
-    const char *name;
-    Cranked (*call)(Machine *m, int way, uint32_t n);
-    uint32_t n; /* turns asked for in one call */
-} Mode;
-
-/* Single turns first: they are counted, so a run without an end is noticed. */
-static const Mode MODES[] = {
-    {"single turns by value", turn_by_value, 1},
-    {"single turns on the bench", turn_on_bench, 1},
-    {"batches of 7 by value", batch_by_value, 7},
-    {"batches of 7 on the bench", batch_on_bench, 7},
-    {"largest batches by value", batch_by_value, UINT32_MAX},
-    {"largest batches on the bench", batch_on_bench, UINT32_MAX},
-};
-
-enum { MODE_COUNT = sizeof MODES / sizeof *MODES };
-
 /* ---- Previews ---- */
-
-/* What a preview answers; whatever is lent to it stays as it is. */
-static Preview preview(const Machine *given, int way)
-{
-    static Machine m;
-    m = *given;
-    Preview p = (way == FORWARD ? crank_preview_forward : crank_preview_back)(
-        m.bench.state, m.mem, m.mem_len, m.table, m.table_len);
-    demand(same(&m, given), "a preview changed something");
-    return p;
-}
 
 /* Whether the word executed or undone is an ld or ldr: the earlier of both states stands at it. */
 static int exchanges(const Machine *earlier)
@@ -210,7 +76,8 @@ static void expect_turn(const Preview *p, int way, uint32_t refusal, const Machi
     previews[way].refused += refusal > 0;
 }
 
-/* A call; where it is a single turn, its preview comes first. */
+/* A call; where it is a single turn, its preview comes first, and after it the preview the other way,
+ * which shows where the turn came from. */
 static Cranked call(const Mode *mode, Machine *m, int way)
 {
     static Machine before;
@@ -222,6 +89,11 @@ static Cranked call(const Mode *mode, Machine *m, int way)
     Preview p = preview(m, way);
     Cranked c = mode->call(m, way, 1);
     expect_turn(&p, way, c.refusal, &before, m);
+    if (c.refusal == 0) {
+        const int other = way == FORWARD ? BACK : FORWARD;
+        p = preview(m, other);
+        expect_turn(&p, other, 0, m, &before);
+    }
     return c;
 }
 
@@ -276,33 +148,7 @@ static uint32_t until_refused(const Mode *mode, Machine *m, int way)
     return made;
 }
 
-/* ---- The calls that take samples ---- */
-
-static Sampled samples_by_value(Machine *m, uint8_t given, const uint8_t *samples, size_t length)
-{
-    Wheeled w = crank_samples(m->bench.state, given, samples, length,
-                              m->mem, m->mem_len, m->table, m->table_len);
-    m->bench.state = w.state;
-    return (Sampled){w.forward, w.back, w.refused, w.last, w.refusal};
-}
-
-static Sampled samples_on_bench(Machine *m, uint8_t given, const uint8_t *samples, size_t length)
-{
-    return bench_samples(&m->bench, given, samples, length,
-                         m->mem, m->mem_len, m->table, m->table_len);
-}
-
-typedef struct {
-    const char *name;
-    Sampled (*call)(Machine *m, uint8_t given, const uint8_t *samples, size_t length);
-} Wheel;
-
-static const Wheel WHEELS[] = {
-    {"samples by value", samples_by_value},
-    {"samples on the bench", samples_on_bench},
-};
-
-enum { WHEEL_COUNT = sizeof WHEELS / sizeof *WHEELS };
+/* ---- Samples ---- */
 
 /* Takes samples; they must come to this, and leave the machine so. */
 static void expect_samples(const Wheel *wheel, Machine *m, uint8_t given, const uint8_t *samples,
@@ -340,9 +186,9 @@ static void wheel_there_and_back(const Machine *start, const Machine *end, uint3
     for (size_t i = 0; i < WHEEL_COUNT; i++) {
         m = *start;
         expect_samples(&WHEELS[i], &m, 0, there, 2 * steps,
-                       (Sampled){.forward = turns, .refused = BEYOND, .last = last}, end);
+                       sums(turns, 0, BEYOND, last, 0), end);
         expect_samples(&WHEELS[i], &m, last, back, 2 * steps,
-                       (Sampled){.back = turns, .refused = BEYOND, .last = 0}, start);
+                       sums(0, turns, BEYOND, 0, 0), start);
     }
 }
 
@@ -357,15 +203,15 @@ static void refused_samples(const Machine *start)
     for (size_t i = 0; i < WHEEL_COUNT; i++) {
         m = *start;
         expect_samples(&WHEELS[i], &m, 0, TWO_STEPS, sizeof TWO_STEPS,
-                       (Sampled){.forward = 1, .last = 1, .refusal = 19}, &once);
+                       sums(1, 0, 0, 1, 19), &once);
         m = *start;
         expect_samples(&WHEELS[i], &m, 0, ABOVE, sizeof ABOVE,
-                       (Sampled){.forward = 1, .last = 1, .refusal = 20}, &once);
+                       sums(1, 0, 0, 1, 20), &once);
         m = *start;
         expect_samples(&WHEELS[i], &m, 4, ABOVE, sizeof ABOVE,
-                       (Sampled){.last = 4, .refusal = 20}, start);
+                       sums(0, 0, 0, 4, 20), start);
         expect_samples(&WHEELS[i], &m, UINT8_MAX, ABOVE, 0,
-                       (Sampled){.last = UINT8_MAX, .refusal = 20}, start);
+                       sums(0, 0, 0, UINT8_MAX, 20), start);
     }
 }
 
@@ -377,7 +223,7 @@ static void expect_no_step(const Machine *given)
     for (size_t i = 0; i < WHEEL_COUNT; i++) {
         m = *given;
         expect_samples(&WHEELS[i], &m, 0, STEPS, sizeof STEPS,
-                       (Sampled){.refused = 3, .last = 1}, given);
+                       sums(0, 0, 3, 1, 0), given);
     }
 }
 
@@ -448,11 +294,8 @@ static void fill(Machine *m)
 
 static void load(const uint8_t *bytes, size_t length, Machine *m)
 {
-    calls = "load";
     fill(m);
-    Loaded l = crank_load(bytes, length, m->mem, m->mem_len, m->table, m->table_len);
-    demand(l.refusal == 0, "the load is refused");
-    m->bench.state = l.state;
+    demand(load_into(m, bytes, length).refusal == 0, "the load is refused");
 }
 
 /* The position in a trailer, which one of kind 1 does not have. */
@@ -468,7 +311,7 @@ static void matches_file(const Machine *m, const File *file)
     const Record *r = &m->bench.state;
     const size_t end = trailer_of(file);
     const uint8_t *trailer = file->bytes + file->length - end;
-    const uint8_t *memory = file->bytes + crank_preface_length(file->bytes, file->length);
+    const uint8_t *memory = file->bytes + preface_length(file->bytes, file->length);
     demand(memory + length_with(end, r) == file->bytes + file->length, "length of the preface");
     demand(r->m == word_at(trailer, 1) && r->k == word_at(trailer, 2), "m or k");
     demand(r->n == word_at(trailer, 3), "n");
@@ -488,18 +331,18 @@ static void matches_file(const Machine *m, const File *file)
            "excess table was written");
 }
 
-/* Saves and gives the bytes, which the next call overwrites. */
+/* Saves, to an output that just fits and to a longer one, and gives the bytes, which the next call
+ * overwrites. */
 static const uint8_t *save(const Machine *m)
 {
-    static uint8_t out[MAX_IMAGE + EXCESS];
+    static Output exact, out;
     const size_t length = image_length(&m->bench.state);
-    calls = "save";
-    memset(out, NOISE, sizeof out);
-    uint32_t refusal = crank_save(m->bench.state, m->mem, m->mem_len, m->table, m->table_len,
-                                  out, sizeof out);
-    demand(refusal == 0, "the save is refused");
-    demand(is_noise(out + length, sizeof out - length), "bytes behind the image were written");
-    return out;
+    demand(save_to(m, &exact, length) == 0, "the save to an output that just fits is refused");
+    demand(save_to(m, &out, sizeof out.bytes) == 0, "the save is refused");
+    demand(memcmp(out.bytes, exact.bytes, sizeof out.bytes) == 0, "a longer output gets other bytes");
+    demand(is_noise(out.bytes + length, sizeof out.bytes - length),
+           "bytes after the image were written");
+    return out.bytes;
 }
 
 /* A file of kind 1 as it is with the position 0. */
@@ -529,24 +372,14 @@ static void survives_save(const Machine *m)
 
 static void expect_check(const Machine *given, uint32_t number, uint32_t place)
 {
-    static Machine m;
-    m = *given;
-    calls = "check";
-    Checked c = crank_check(m.bench.state, m.mem, m.mem_len, m.table, m.table_len);
+    Checked c = check(given);
     demand(c.refusal == number && c.place == place, "another refusal or place than expected");
-    demand(same(&m, given), "changed something");
     refused[number] += number > 0;
 }
 
 static void expect_node(const Machine *given, uint32_t node, uint32_t number)
 {
-    static Machine m;
-    m = *given;
-    calls = "check of a node";
-    uint32_t refusal = crank_check_node(m.bench.state, node, m.mem, m.mem_len, m.table,
-                                        m.table_len);
-    demand(refusal == number, "another refusal than expected");
-    demand(same(&m, given), "changed something");
+    demand(check_node(given, node) == number, "another refusal than expected");
     nodes += number == 0 || number == 8;
     refused[number] += number > 0;
 }
@@ -565,56 +398,43 @@ static void expect_paired(const Machine *given)
 
 static void expect_save_refused(const Machine *given, size_t out_len, uint32_t number)
 {
-    static Machine m;
-    static uint8_t out[MAX_IMAGE];
-    m = *given;
-    calls = "save";
-    memset(out, NOISE, sizeof out);
-    uint32_t refusal = crank_save(m.bench.state, m.mem, m.mem_len, m.table, m.table_len,
-                                  out, out_len);
-    demand(refusal == number, "another refusal than expected");
-    demand(is_noise(out, sizeof out) && same(&m, given), "a refused save changed something");
+    static Output out;
+    demand(save_to(given, &out, out_len) == number, "another refusal than expected");
+    demand(is_noise(out.bytes, sizeof out.bytes), "a refused save wrote something");
     refused[number]++;
 }
 
-static void expect_load_refused(const File *file, uint32_t mem_len, uint32_t table_len,
-                                uint32_t number)
+/* Refused with so much lent: the answer has zeros, and nothing changes. */
+static void expect_kept(const File *file, const Machine *given, uint32_t mem_len,
+                        uint32_t table_len, uint32_t number)
 {
     static const Record zeros = {{0}, 0, 0, 0, 0, 0, 0};
-    static Machine m, given;
-    calls = "load";
-    fill(&m);
-    given = m;
-    Loaded l = crank_load(file->bytes, file->length, m.mem, mem_len, m.table, table_len);
+    static Machine m, lent;
+    lent = *given;
+    lent.mem_len = mem_len;
+    lent.table_len = table_len;
+    m = lent;
+    Loaded l = load_into(&m, file->bytes, file->length);
     demand(l.refusal == number, "another refusal than expected");
     demand(same_record(&l.state, &zeros), "a refused load gives no zeros");
-    demand(same(&m, &given), "a refused load wrote something");
-    demand(number == 6 || crank_preface_length(file->bytes, file->length) == 0,
-           "a preface of no image");
+    demand(same(&m, &lent), "a refused load changed something");
     refused[number]++;
+}
+
+/* Refused in the middle of a lesson, which is kept, and where everything is noise, so that a word of the
+ * file would be noticed. */
+static void expect_load_refused(const File *file, const Machine *lesson, uint32_t mem_len,
+                                uint32_t table_len, uint32_t number)
+{
+    static Machine noise;
+    fill(&noise);
+    expect_kept(file, &noise, mem_len, table_len, number);
+    expect_kept(file, lesson, mem_len, table_len, number);
+    demand(number == 6 || preface_length(file->bytes, file->length) == 0, "a preface of no image");
+    lessons_kept++;
 }
 
 /* ---- Tables ---- */
-
-/* Makes a table with so much scratch lent: nothing else changes but the table. */
-static Made make(Machine *m, uint32_t limit, size_t scratch_len)
-{
-    static uint32_t scratch[SCRATCH * MAX_WORDS + EXCESS];
-    static Machine given;
-    given = *m;
-    calls = "make";
-    memset(scratch, NOISE, sizeof scratch);
-    Made made = crank_make_table(m->bench.state, limit, m->mem, m->mem_len, m->table, m->table_len,
-                                 scratch, scratch_len);
-    const int walked = made.refusal != 10 && made.refusal != 22;
-    const size_t used = walked ? SCRATCH * (size_t)given.bench.state.m : 0;
-    demand(is_noise(scratch + used, sizeof scratch - 4 * used), "excess scratch was written");
-    demand(memcmp(m->mem, given.mem, sizeof m->mem) == 0, "memory is not as it was");
-    const size_t written = walked ? TABLE : 0;
-    demand(memcmp(m->table + written, given.table + written, sizeof m->table - 4 * written) == 0,
-           "excess table was written");
-    return made;
-}
 
 static int is_zero(const uint32_t *words, size_t length)
 {
@@ -632,7 +452,7 @@ static void expect_make_refused(const Machine *given, uint32_t limit, size_t scr
 {
     static Machine m;
     m = *given;
-    Made made = make(&m, limit, scratch_len);
+    Made made = make_in(&m, limit, scratch_len);
     demand(made.refusal == number, "another refusal than expected");
     demand(made.cycles == 0, "cycles of a table that is refused");
     demand(same_record(&made.state, &given->bench.state), "a refused table changed the record");
@@ -640,18 +460,17 @@ static void expect_make_refused(const Machine *given, uint32_t limit, size_t scr
     refused[number]++;
 }
 
-/* Makes the table: the record is the one given, but for its nodes and that it stands at the first. */
+/* Makes the table: the record is the one given, except its nodes and that it stands at the first. */
 static uint32_t expect_made(Machine *m, uint32_t limit)
 {
     Record expected = m->bench.state;
-    Made made = make(m, limit, SCRATCH * (size_t)expected.m);
+    Made made = make_in(m, limit, SCRATCH * (size_t)expected.m);
     demand(made.refusal == 0, "the table is refused");
     expected.n = made.state.n;
     expected.qifv = 1;
     demand(same_record(&made.state, &expected), "another record");
     demand(is_zero(m->table + NODE * expected.n, TABLE - NODE * expected.n),
            "no zeros behind the nodes");
-    m->bench.state = made.state;
     tables++;
     made_nodes += expected.n;
     return made.cycles;
@@ -732,8 +551,8 @@ static void unequal(Machine *m)
 {
     fill(m);
     memcpy(m->mem, UNEQUAL, sizeof UNEQUAL);
-    m->bench.state = (Record){.k = UNEQUAL_WORDS - 1, .m = UNEQUAL_WORDS};
-    m->bench.state.position = INT64_MAX;
+    const Record r = {{0}, 0, 0, UNEQUAL_WORDS - 1, UNEQUAL_WORDS, 0, INT64_MAX};
+    m->bench.state = r;
     m->bench.state.regs[4] = 5;
 }
 
@@ -792,17 +611,17 @@ static void checks(const Machine *start)
 {
     const uint32_t place = first_constant(start);
     for (size_t i = 0; i < place; i++) {
-        demand(qins_is_instruction(start->mem[i]) == 1, "a code word is no instruction");
+        demand(is_instruction(start->mem[i]) == 1, "a code word is no instruction");
     }
     if (place < start->bench.state.k) {
-        demand(qins_is_instruction(start->mem[place]) == 0, "a constant is an instruction");
+        demand(is_instruction(start->mem[place]) == 0, "a constant is an instruction");
         expect_check(start, 7, place);
         constants++;
     } else {
         expect_check(start, 0, 0);
     }
     expect_paired(start);
-    demand(qins_is_instruction(0) == 0, "0 is an instruction");
+    demand(is_instruction(0) == 0, "0 is an instruction");
 }
 
 /* Every mode must end where the first one did, and come back to the start and the file. */
@@ -851,28 +670,47 @@ static const File *cut_to(size_t length, const File *file)
     return &cut;
 }
 
-static void refused_loads(const File *file, const Record *r)
+static void refused_loads(const File *file, const Machine *lesson)
 {
+    const Record *r = &lesson->bench.state;
     const uint32_t mem = r->m, table = NODE * r->n;
     const size_t trailer = trailer_of(file), back = length_with(trailer, r);
     /* Below its own trailer; the end is looked at before that, but no end of under 92 bytes. */
     for (size_t length = OLD_TRAILER - 1; length < trailer; length++) {
-        expect_load_refused(cut_to(length, file), mem, table, 1);
+        expect_load_refused(cut_to(length, file), lesson, mem, table, 1);
     }
-    expect_load_refused(with_trailer_word(file, trailer / 4 - 1, 0), mem, table, 2);
-    expect_load_refused(cut_to(trailer, with_trailer_word(file, trailer / 4 - 1, 0)), mem, table, 2);
-    expect_load_refused(with_trailer_word(file, 2, 0), mem, table, 3);
+    expect_load_refused(with_trailer_word(file, trailer / 4 - 1, 0), lesson, mem, table, 2);
+    expect_load_refused(cut_to(trailer, with_trailer_word(file, trailer / 4 - 1, 0)), lesson,
+                        mem, table, 2);
+    expect_load_refused(with_trailer_word(file, 2, 0), lesson, mem, table, 3);
     /* That of the other kind too. */
-    expect_load_refused(with_trailer_word(file, 0, (uint32_t)back + 8), mem, table, 4);
-    expect_load_refused(with_trailer_word(file, 0, (uint32_t)back - 8), mem, table, 4);
+    expect_load_refused(with_trailer_word(file, 0, (uint32_t)back + 8), lesson, mem, table, 4);
+    expect_load_refused(with_trailer_word(file, 0, (uint32_t)back - 8), lesson, mem, table, 4);
     for (size_t length = trailer; length < trailer + 4; length++) {
-        expect_load_refused(cut_to(length, file), mem, table, 5);
+        expect_load_refused(cut_to(length, file), lesson, mem, table, 5);
     }
-    expect_load_refused(cut_to(back - 1, file), mem, table, 5);
-    expect_load_refused(file, mem - 1, table, 6);
+    expect_load_refused(cut_to(back - 1, file), lesson, mem, table, 5);
+    expect_load_refused(file, lesson, mem - 1, table, 6);
     if (table > 0) {
-        expect_load_refused(file, mem, table - 1, 6);
+        expect_load_refused(file, lesson, mem, table - 1, 6);
     }
+}
+
+/* Some turns after the start. */
+static void in_a_lesson(const Machine *start, Machine *lesson)
+{
+    *lesson = *start;
+    demand(batch_on_bench(lesson, FORWARD, 7).turns > 0, "no first turn");
+}
+
+/* An accepted load puts its record where that of a lesson was. */
+static void replaces(const Machine *lesson, const File *file, const Machine *start)
+{
+    static Machine m;
+    m = *lesson;
+    demand(load_into(&m, file->bytes, file->length).refusal == 0, "the load is refused");
+    demand(same(&m, start), "another state over a lesson");
+    lessons_replaced++;
 }
 
 /* The image of the file, without what stood before it, behind so many bytes of noise. */
@@ -891,14 +729,14 @@ static void loads_behind(size_t preface, const File *file, const Machine *start)
     put_behind(preface, file, &start->bench.state, &behind);
     load(behind.bytes, behind.length, &m);
     demand(same(&m, start), "another state behind a preface");
-    demand(crank_preface_length(behind.bytes, behind.length) == preface, "length of the preface");
+    demand(preface_length(behind.bytes, behind.length) == preface, "length of the preface");
     saves_as_file(&m, file);
     prefaced++;
 }
 
 /* A short preface, the longest, and one byte more. What is refused behind the short one shows that
  * the length is 0 because of the refusal, and not because there is no preface. */
-static void prefaces(const Machine *start, const File *file)
+static void prefaces(const Machine *start, const Machine *lesson, const File *file)
 {
     static File behind;
     const Record *r = &start->bench.state;
@@ -906,9 +744,9 @@ static void prefaces(const Machine *start, const File *file)
     loads_behind(PREFACE, file, start);
     loads_behind(longest, file, start);
     put_behind(longest + 1, file, r, &behind);
-    expect_load_refused(&behind, r->m, NODE * r->n, 1);
+    expect_load_refused(&behind, lesson, r->m, NODE * r->n, 1);
     put_behind(PREFACE, file, r, &behind);
-    refused_loads(&behind, r);
+    refused_loads(&behind, lesson);
 }
 
 /* Makes the sizes wrong for what is lent, one way for each kind; 0 where that way is not open. */
@@ -997,7 +835,7 @@ static void refused_positions(const Machine *start, int way)
     without_code.bench.state.k = 0;
     for (size_t i = 0; i < WHEEL_COUNT; i++) {
         const uint8_t step = way == FORWARD ? 1 : 2;
-        expect_samples(&WHEELS[i], &last, 0, &step, 1, (Sampled){.refused = 1, .last = step}, &last);
+        expect_samples(&WHEELS[i], &last, 0, &step, 1, sums(0, 0, 1, step, 0), &last);
     }
     for (size_t i = 0; i < MODE_COUNT; i++) {
         expect_one(&MODES[i], &before, way, &last);
@@ -1012,14 +850,16 @@ static void refused_positions(const Machine *start, int way)
 /* Everything with the image of one file. */
 static void examine_file(const File *file)
 {
-    static Machine start;
+    static Machine start, lesson;
     load(file->bytes, file->length, &start);
     matches_file(&start, file);
     saves_as_file(&start, file);
     checks(&start);
     there_and_back(&start, file);
-    refused_loads(file, &start.bench.state);
-    prefaces(&start, file);
+    in_a_lesson(&start, &lesson);
+    refused_loads(file, &lesson);
+    prefaces(&start, &lesson, file);
+    replaces(&lesson, file, &start);
     refused_sizes(&start);
     refused_contents(&start);
     refused_samples(&start);
@@ -1070,6 +910,7 @@ static void report(int images)
     demand(waited > 0, "no image waits");
     demand(sampled > 0, "no samples were taken");
     demand(prefaced > 0, "no preface was tried");
+    demand(lessons_kept > 0 && lessons_replaced > 0, "no load was tried in a lesson");
     demand(empty > 0, "no batch of 0 was tried");
     demand(positions > 0, "no end of the position was tried");
     demand(nodes > 0, "no node was checked by itself");
@@ -1080,13 +921,15 @@ static void report(int images)
         total += refused[MET[i]];
     }
     printf("roundtrip: images %d; turns forward %lu, back %lu; single turns out of a wait %lu; "
-           "batches of 0 %lu; samples %lu; loads behind a preface %lu; ends of the position %lu; "
+           "batches of 0 %lu; samples %lu; loads after a preface %lu, in a lesson %lu, refused "
+           "there %lu; ends of the position %lu; "
            "checks of a node %lu; of code with a constant %lu; tables made %lu, with nodes %lu; "
            "calls refused %lu\n",
-           images, turned[FORWARD], turned[BACK], waited, empty, sampled, prefaced, positions,
-           nodes, constants, tables, made_nodes, total);
+           images, turned[FORWARD], turned[BACK], waited, empty, sampled, prefaced,
+           lessons_replaced, lessons_kept, positions, nodes, constants, tables, made_nodes, total);
     report_previews("forward", FORWARD);
     report_previews("back", BACK);
+    report_calls();
 }
 
 int main(int count, char **names)
