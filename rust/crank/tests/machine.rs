@@ -1,11 +1,15 @@
-//! `Machine` held against single turns by value, the lesson bench against the calls by value, and
-//! the refusals in words.
+//! `Machine` held against single turns by value, and the refusals in words.
 
-use crank::calls::{self, Batch, Bench, Cranked, Preview, Sampled, Turned};
+#[path = "support/examples.rs"]
+mod examples;
+#[path = "support/run.rs"]
+mod run;
+
+use crank::calls::{self, Preview, Sampled, Turned};
 use crank::{meaning, Call, Direction, Kind, Machine, Made, Record, MAX_FILE};
-use std::fs;
+use examples::examples;
+use run::run;
 use std::iter;
-use std::path::Path;
 use std::sync::mpsc;
 use std::thread;
 use std::time::Duration;
@@ -24,42 +28,6 @@ const M_WORD: usize = 4;
 fn short() -> Machine {
     let code = vec![0x1A00_0000, 0x0240_0005, 0x1B00_0000, 7];
     Machine::new(3, code, Vec::new())
-}
-
-/// Every example by its name, as a file and as a machine.
-fn examples() -> Vec<(String, Vec<u8>, Machine)> {
-    let folder = Path::new(env!("CARGO_MANIFEST_DIR")).join("../../examples");
-    let mut found = Vec::new();
-    for entry in fs::read_dir(folder).expect("the examples") {
-        let path = entry.expect("an entry").path();
-        if path.extension().is_some_and(|extension| extension == "img") {
-            let file = fs::read(&path).expect("it can be read");
-            let machine = Machine::load(&file).expect("it is an image");
-            let name = path.file_name().expect("its name").to_string_lossy();
-            found.push((name.into_owned(), file, machine));
-        }
-    }
-    assert!(!found.is_empty(), "no examples");
-    found
-}
-
-/// Every state of a run, the first one too, and the refusal that ends it; by single turns by value.
-fn run(machine: &Machine, direction: Direction) -> (Vec<Machine>, u32) {
-    let mut states = vec![machine.clone()];
-    loop {
-        let mut next = states.last().expect("a state").clone();
-        let call = match direction {
-            Forward => calls::forward,
-            Back => calls::back,
-        };
-        let turned = call(next.record, &mut next.mem, &next.table);
-        if turned.refusal != 0 {
-            return (states, turned.refusal);
-        }
-        next.record = turned.state;
-        states.push(next);
-        assert!(states.len() < 100_000, "it does not end");
-    }
 }
 
 /// The image with a number added to the word at this byte.
@@ -358,6 +326,8 @@ fn no_turns(given: u8) -> Sampled {
     }
 }
 
+type ByValue = fn(Record, &mut [u32], &[u32]) -> Turned;
+
 /// What samples come to, by single turns by value.
 fn by_single_turns(machine: &Machine, given: u8, samples: &[u8]) -> (Sampled, Machine) {
     let place = |sample: u8| CYCLE.iter().position(|other| *other == sample);
@@ -524,84 +494,4 @@ fn meanings() {
     assert!(turn != check && turn != make && check != make);
     assert_ne!(meaning(12, Call::Forward), meaning(12, Call::Make));
     println!("machine: 0 to 24 in words, for {} calls", calls.len());
-}
-
-type OnBench = fn(&mut Bench, &mut [u32], &[u32]) -> u32;
-type ByValue = fn(Record, &mut [u32], &[u32]) -> Turned;
-type BatchOnBench = fn(&mut Bench, u32, &mut [u32], &[u32]) -> Cranked;
-type BatchByValue = fn(Record, u32, &mut [u32], &[u32]) -> Batch;
-
-fn single_on_bench(machine: &Machine, on_bench: OnBench, by_value: ByValue) {
-    let (table, mut bench) = (
-        &machine.table,
-        Bench {
-            state: machine.record,
-        },
-    );
-    let [mut mem, mut other] = [machine.mem.clone(), machine.mem.clone()];
-    let refusal = on_bench(&mut bench, &mut mem, table);
-    let turned = by_value(machine.record, &mut other, table);
-    assert_eq!((refusal, bench.state), (turned.refusal, turned.state));
-    assert_eq!(mem, other);
-}
-
-fn batch_on_bench(machine: &Machine, n: u32, on_bench: BatchOnBench, by_value: BatchByValue) {
-    let (table, mut bench) = (
-        &machine.table,
-        Bench {
-            state: machine.record,
-        },
-    );
-    let [mut mem, mut other] = [machine.mem.clone(), machine.mem.clone()];
-    let cranked = on_bench(&mut bench, n, &mut mem, table);
-    let batch = by_value(machine.record, n, &mut other, table);
-    let found = (cranked.turns, cranked.refusal, bench.state);
-    assert_eq!(found, (batch.turns, batch.refusal, batch.state));
-    assert_eq!(mem, other);
-}
-
-fn samples_on_bench(machine: &Machine, given: u8, samples: &[u8]) {
-    let (table, mut bench) = (
-        &machine.table,
-        Bench {
-            state: machine.record,
-        },
-    );
-    let [mut mem, mut other] = [machine.mem.clone(), machine.mem.clone()];
-    let sampled = bench.samples(given, samples, &mut mem, table);
-    let wheeled = calls::samples(machine.record, given, samples, &mut other, table);
-    let counts = [sampled.forward, sampled.back, sampled.refused];
-    assert_eq!(counts, [wheeled.forward, wheeled.back, wheeled.refused]);
-    let found = (sampled.last, sampled.refusal, bench.state);
-    assert_eq!(found, (wheeled.last, wheeled.refusal, wheeled.state));
-    assert_eq!(mem, other);
-}
-
-/// Each call of the lesson bench, in every state of the examples, against the call by value.
-#[test]
-fn lesson_bench() {
-    let mut made = 0;
-    for (_, _, machine) in examples() {
-        for state in run(&machine, Forward).0 {
-            single_on_bench(&state, Bench::forward, calls::forward);
-            single_on_bench(&state, Bench::back, calls::back);
-            for n in [0, 1, 3, u32::MAX] {
-                batch_on_bench(&state, n, Bench::forward_batch, calls::forward_batch);
-                batch_on_bench(&state, n, Bench::back_batch, calls::back_batch);
-            }
-            let lists: [(u8, &[u8]); 5] = [
-                (0, &[]),
-                (0, &[1, 1, 3, 2, 0, 2, 3]),
-                (1, &[0, 2, 3, 3, 0, 1]),
-                (2, &[3, 1, 4]),
-                (4, &[0]),
-            ];
-            for (given, samples) in lists {
-                samples_on_bench(&state, given, samples);
-            }
-            made += 15;
-        }
-    }
-    println!("machine: {made} calls of the lesson bench");
-    assert!(made > 1_000);
 }

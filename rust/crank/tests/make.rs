@@ -1,10 +1,12 @@
 //! Tables made for the examples and for small programs: what they hold, that they can be turned over,
 //! and what is refused.
 
+#[path = "support/examples.rs"]
+mod examples;
+
 use crank::calls::{self, Made};
 use crank::{Direction, Machine, Record, MAKE_LIMIT, MAX_NODES, NODE_WORDS};
-use std::fs;
-use std::path::Path;
+use examples::examples;
 
 /// The words that hold a made table.
 const TABLE: usize = NODE_WORDS * MAX_NODES;
@@ -57,23 +59,7 @@ fn program(changes: &Changes) -> Machine {
     Machine::new(CODE.len() as u32, code, Vec::new())
 }
 
-/// Every example by its name.
-fn examples() -> Vec<(String, Machine)> {
-    let folder = Path::new(env!("CARGO_MANIFEST_DIR")).join("../../examples");
-    let mut found = Vec::new();
-    for entry in fs::read_dir(folder).expect("the examples") {
-        let path = entry.expect("an entry").path();
-        if path.extension().is_some_and(|extension| extension == "img") {
-            let file = fs::read(&path).expect("it can be read");
-            let name = path.file_stem().expect("its name").to_string_lossy();
-            found.push((name.into_owned(), Machine::load(&file).expect("an image")));
-        }
-    }
-    assert!(!found.is_empty(), "no examples");
-    found
-}
-
-/// The same without its table.
+/// The machine without its table.
 fn bare(machine: &Machine) -> Machine {
     let mut bare = machine.clone();
     bare.table.clear();
@@ -86,7 +72,7 @@ fn bare(machine: &Machine) -> Machine {
 #[test]
 fn tables_of_the_examples() {
     let (mut nodes, mut turns) = (0, 0);
-    for (name, drawn) in examples() {
+    for (name, _, drawn) in examples() {
         let mut machine = bare(&drawn);
         let cycles = machine.make_table(MAKE_LIMIT).expect(&name);
         // Every example but those without a qif has its table, made or drawn as one would be made.
