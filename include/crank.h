@@ -1,13 +1,13 @@
 /* The calls of the crank bench for C and C++: QINS on basis states, forward and back.
  *
- * Link libcapi.a for the turns, previews, batches, samples, images and tables, libsession.a for the
- * lesson bench, libprogram.a for the crank program; each is complete, and one program may link all.
+ * Link libcapi.a for the calls that take the record by value, libsession.a for the lesson bench, which
+ * holds the record, libprogram.a for the crank program; each is complete, and one program may link all.
  * docs/CALLS.md says how they are built, docs/MANUAL.md what the machine does and, in section 10, what
  * each refusal means. A refusal of 0 is none.
  *
- * A lent slice is a pointer and then its length in elements. The pointer is never null, not even
- * for length 0, and what a call may write overlaps nothing else that is lent to it. That apart,
- * every call takes every argument.
+ * A lent slice is a pointer followed by its length in elements. No pointer is null, not even one for
+ * length 0, and what a call may write overlaps nothing else that is lent to it. Apart from that, every
+ * call takes every argument.
  */
 #ifndef CRANK_H
 #define CRANK_H
@@ -47,7 +47,7 @@ typedef struct Turned {
 typedef struct Batch {
     uint32_t turns;   /* turns made */
     uint32_t refusal; /* of the next turn where they are fewer than asked for, else 0 */
-    Record state; /* the record after these turns */
+    Record state;     /* the record after these turns */
 } Batch;
 
 /* What a preview answers: what the turn would do. */
@@ -65,7 +65,7 @@ typedef struct Wheeled {
     uint64_t back;    /* turns accepted back */
     uint64_t refused; /* turns that the machine refused */
     uint32_t last;    /* the last sample before any 19 or 20; the given one if there is none. It fits a
-                         byte, and is what the call for the samples behind it is given */
+                         byte, and is what the call for the samples after it is given */
     uint32_t refusal; /* 19 or 20; 0 where all samples were taken */
     Record state;     /* the record after the accepted turns */
 } Wheeled;
@@ -90,7 +90,8 @@ typedef struct Made {
     Record state;    /* the record given, with the new n and qifv 1; refused: the record given */
 } Made;
 
-/* The lesson bench. Its caller fills in the record, and may read it between calls. */
+/* The lesson bench: the record that its calls work on. bench_load fills it in, or else its caller, who
+ * may read and change it between calls. */
 typedef struct Bench {
     Record state;
 } Bench;
@@ -199,14 +200,14 @@ Batch crank_back_batch(Record r, uint32_t n, uint32_t *mem, size_t mem_len,
  * the sample before the first. An equal sample turns nothing, a step along the cycle turns forward,
  * a step against it back. A turn that is refused, by whatever number, is counted, and the samples go
  * on. Refusals: 20 where a sample or given is above 3, 19 where a sample is two steps from the one
- * before; found sample by sample, 20 first, given before any. What stands behind the first is not
+ * before; found sample by sample, 20 first, given before any. What follows the first is not
  * looked at. Record and mem are as after the accepted turns, with a refusal too. */
 Wheeled crank_samples(Record r, uint8_t given, const uint8_t *samples, size_t samples_len,
                       uint32_t *mem, size_t mem_len, const uint32_t *table, size_t table_len);
 
 /* ---- Images: libcapi.a ---- */
 
-/* Reads the image at the end of the file, behind any preface: fills the first m words of mem and
+/* Reads the image at the end of the file, after any preface: fills the first m words of mem and
  * the first 9 * n of table, and no more. 8192 and 4599 words are always enough. It takes both kinds of
  * image: one of kind 1 has no position, and gives 0. Refusals 1 to 6. Refused: the answer has a record
  * of zeros, position too, and nothing is written. */
@@ -217,7 +218,7 @@ Loaded crank_load(const uint8_t *file, size_t file_len, uint32_t *mem, size_t me
 size_t crank_preface_length(const uint8_t *file, size_t file_len);
 
 /* Writes the image, of kind 2, with the position and without a preface, to the front of out:
- * 4 * m + 36 * n + 100 bytes, and nothing behind them. 51264 bytes are always enough. Answers the
+ * 4 * m + 36 * n + 100 bytes, and nothing after them. 51264 bytes are always enough. Answers the
  * refusal: 10 as in a turn, 9 where out is too short. Refused: nothing is written. */
 uint32_t crank_save(Record r, const uint32_t *mem, size_t mem_len,
                     const uint32_t *table, size_t table_len, uint8_t *out, size_t out_len);
@@ -239,12 +240,12 @@ uint32_t crank_check_node(Record r, uint32_t node, const uint32_t *mem, size_t m
 /* Makes the qif table of the code: walks it from the start at pc to finish, through both branches of
  * every qif, from what the registers and mem hold, with uni and unib moving pc alone and the position
  * still. At a qif its register is set to 0 for one branch and to 1 for the other, whatever it held;
- * behind the fiq it holds that again. limit is on all cycles walked: every word of both branches, the
+ * after the fiq it holds that again. limit is on all cycles walked: every word of both branches, the
  * qif once for both; no waits, no finish.
  *
- * Accepted: the first 4599 words of table hold the n nodes of the answer, and zeros behind them. mem is
+ * Accepted: the first 4599 words of table hold the n nodes of the answer, and zeros after them. mem is
  * written on the way and ends as it began, refused or not. What the first 16 * m words of scratch then
- * hold is free; 131072 words are always enough. Behind these table and scratch are never touched.
+ * hold is free; 131072 words are always enough. Beyond these, table and scratch are never touched.
  *
  * Refusals: 10 as in a turn; 22 where n or qifw is above 0, pc is not below k or not at a start, table
  * is shorter than 4599 words or scratch than 16 * m. After these nothing is written. Then those of the
@@ -258,10 +259,10 @@ Made crank_make_table(Record r, uint32_t limit, uint32_t *mem, size_t mem_len,
 
 /* ---- The lesson bench: libsession.a ----
  *
- * Every call above that takes a record, and the load, with the record in *b instead. A call that
- * turns or makes leaves in *b the record that the call by value would have answered; a load does so
- * where it is accepted. A call that takes a const Bench only looks at it. mem, table and all else are
- * lent as above, and the refusals are the same.
+ * The load and every call above that takes a record, with the record in *b: a bench_ call is lent the
+ * same as its crank_ call, refuses by the same rules and answers the same, though turns, batches, samples
+ * and tables without the record. A call that takes a const Bench only reads it. Any other leaves in *b
+ * the record that the crank_ call would have answered, except a refused load, which leaves *b as it was.
  */
 
 /* One turn; answers its refusal. Refused: *b and mem are as they were. */
@@ -282,31 +283,30 @@ Cranked bench_back_batch(Bench *b, uint32_t n, uint32_t *mem, size_t mem_len,
 Sampled bench_samples(Bench *b, uint8_t given, const uint8_t *samples, size_t samples_len,
                       uint32_t *mem, size_t mem_len, const uint32_t *table, size_t table_len);
 
-/* The turn, shown and not made, as by crank_preview_forward. */
+/* The turn, shown and not made, as by crank_preview_forward and crank_preview_back. */
 Preview bench_preview_forward(const Bench *b, const uint32_t *mem, size_t mem_len,
                               const uint32_t *table, size_t table_len);
 Preview bench_preview_back(const Bench *b, const uint32_t *mem, size_t mem_len,
                            const uint32_t *table, size_t table_len);
 
-/* Reads an image, by the rules of crank_load, whatever *b holds; it answers the same, and *b then
- * holds the record. Refused: the record of zeros is in the answer alone, *b, mem and table are as they
- * were. */
+/* Reads the image at the end of the file, by the rules of crank_load: *b then holds its record, whatever
+ * it held before. Refused: *b, mem and table are as they were; the record of zeros is in the answer
+ * alone. */
 Loaded bench_load(Bench *b, const uint8_t *file, size_t file_len, uint32_t *mem, size_t mem_len,
                   uint32_t *table, size_t table_len);
 
-/* Writes the image, as crank_save does; answers the refusal. */
+/* Writes the image to the front of out, as crank_save does; answers the refusal. */
 uint32_t bench_save(const Bench *b, const uint32_t *mem, size_t mem_len,
                     const uint32_t *table, size_t table_len, uint8_t *out, size_t out_len);
 
-/* Looks at the code words and links, and at the links of one node, as crank_check and
- * crank_check_node do. */
+/* The check of code words and links, and that of one node, as by crank_check and crank_check_node. */
 Checked bench_check(const Bench *b, const uint32_t *mem, size_t mem_len,
                     const uint32_t *table, size_t table_len);
 uint32_t bench_check_node(const Bench *b, uint32_t node, const uint32_t *mem, size_t mem_len,
                           const uint32_t *table, size_t table_len);
 
-/* Makes the qif table of the code, by the rules of crank_make_table: *b then has the new n and qifv 1.
- * Refused: *b is as it was. */
+/* Makes the qif table of the code, by the rules of crank_make_table. Accepted: *b has the new n and
+ * qifv 1. Refused: *b is as it was. */
 Tabled bench_make_table(Bench *b, uint32_t limit, uint32_t *mem, size_t mem_len,
                         uint32_t *table, size_t table_len, uint32_t *scratch, size_t scratch_len);
 
