@@ -72,25 +72,35 @@ if [ -n "$cxx" ]; then
     "$scratch/roundtrip" "$@" | cmp -s - "$scratch/covered" || fail 'the round trip as C++'
 fi
 
-# The program of docs/CALLS.md, built and run by the commands there.
+# The programs of docs/CALLS.md, built and run by the commands there. A block
+# fenced by ```c is the file that the comment in its first line names.
 calls=$folder/../../docs/CALLS.md
 for part in include target examples; do
     ln -s "$(cd "$folder/../.." && pwd)/$part" "$scratch/$part"
 done
-# block KIND: what stands in the blocks of CALLS.md that are fenced by ```KIND
-block() {
-    awk -v kind="$1" '/^```/ { on = !on; wanted = on && $0 == "```" kind; next } wanted' "$calls"
-}
-block c >"$scratch/lesson.c"
-block '' >"$scratch/shown"
+awk -v folder="$scratch" '
+    /^```/ { on = !on; program = on && $0 == "```c"; plain = on && $0 == "```"; file = ""; next }
+    program && file == "" { file = folder "/" $2; print $2 }
+    program { print >file }
+    plain { print >(folder "/shown") }
+' "$calls" >"$scratch/programs"
 grep '^\$ ' "$scratch/shown" | sed 's/^\$ //' >"$scratch/commands"
-[ -s "$scratch/lesson.c" ] && [ -s "$scratch/commands" ] || fail 'CALLS.md has no program'
-(cd "$scratch" && sh -e commands >printed 2>&1) || fail "the program of CALLS.md: $(cat "$scratch/printed")"
-grep -v '^\$ ' "$scratch/shown" | cmp -s - "$scratch/printed" || fail 'CALLS.md shows something else'
+grep -v '^\$ ' "$scratch/shown" >"$scratch/output"
+[ -s "$scratch/programs" ] && [ -s "$scratch/commands" ] || fail 'CALLS.md has no program'
+for program in $(cat "$scratch/programs"); do
+    grep -q "^gcc -std=c11 .* $program " "$scratch/commands" || fail "CALLS.md does not build $program"
+done
+# shown COMMANDS: runs them; they must end, and print what CALLS.md shows
+shown() {
+    (cd "$scratch" && timeout 20 sh -e "$1" >printed 2>&1) ||
+        fail "CALLS.md, $1: $(cat "$scratch/printed")"
+    cmp -s "$scratch/output" "$scratch/printed" || fail "CALLS.md, $1: prints something else"
+}
+shown commands
 if [ -n "$cxx" ]; then
-    # The same program as C++ finds the calls by their C names.
-    (cd "$scratch" && "$cxx" -Iinclude -x c++ lesson.c -x none target/staticlib/libcapi.a -o lesson++) ||
-        fail 'the program of CALLS.md as C++'
-    (cd "$scratch" && ./lesson++ examples/loop.img) | cmp -s - "$scratch/printed" || fail 'the C++ program'
+    # The same programs as C++ find the calls by their C names.
+    sed "s|^gcc -std=c11 \(.*\.c\) |$cxx -x c++ \1 -x none |" "$scratch/commands" >"$scratch/as_c++"
+    cmp -s "$scratch/commands" "$scratch/as_c++" && fail 'CALLS.md has no command for C++'
+    shown as_c++
 fi
-echo "CALLS.md: $(wc -l <"$scratch/commands") commands"
+echo "CALLS.md: $(wc -l <"$scratch/programs") programs, $(wc -l <"$scratch/commands") commands"
