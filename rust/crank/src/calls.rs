@@ -1,7 +1,7 @@
-//! The calls of `include/crank.h`, one function each; those of the lesson bench are methods of
-//! [`Bench`].
+//! The calls of `include/crank.h`: those of the lesson bench are methods of [`Bench`], the others are
+//! functions.
 //!
-//! A slice is lent by its own pointer and length, for the time of the call, and no call keeps one.
+//! A slice is lent by its own pointer and length for the duration of the call, and no call keeps one.
 //! Every bit pattern is a value of the structs that come back.
 
 use crate::Record;
@@ -42,7 +42,7 @@ pub struct Preview {
 pub struct Batch {
     /// The turns made.
     pub turns: u32,
-    /// That of the next turn where fewer were made than asked for, else 0.
+    /// The refusal of the next turn where fewer were made than asked for, else 0.
     pub refusal: u32,
     /// The record after these turns.
     pub state: Record,
@@ -89,10 +89,10 @@ pub struct Checked {
 #[derive(Clone, Copy, Debug, PartialEq, Eq)]
 pub struct Made {
     pub refusal: u32,
-    /// The cycles of a walk over the table from start to finish, waits too, the same for every choice
-    /// of coins; refused, 0.
+    /// The cycles of a walk over the table from start to finish, with its waits; the same for every
+    /// choice of coins. Refused, 0.
     pub cycles: u32,
-    /// The record given with the new N and node 1; refused, the record given.
+    /// The record given, with the new N and at node 1; refused, the record given.
     pub state: Record,
 }
 
@@ -219,15 +219,15 @@ pub fn forward(r: Record, mem: &mut [u32], table: &[u32]) -> Turned {
     unsafe { crank_forward(r, mem.as_mut_ptr(), mem.len(), table.as_ptr(), table.len()) }
 }
 
-/// One turn back: undoes the forward turn that leads here; refused exactly where there is none, as at
-/// the smallest position.
+/// One turn back: undoes the forward turn that leads here. It is refused exactly where there is none,
+/// as at the smallest position.
 pub fn back(r: Record, mem: &mut [u32], table: &[u32]) -> Turned {
     // SAFETY: pointers and lengths come from live slices.
     unsafe { crank_back(r, mem.as_mut_ptr(), mem.len(), table.as_ptr(), table.len()) }
 }
 
 /// The turn forward, shown and not made: what [`forward`] would answer, and the memory word that it
-/// would change, if it would change one. A word exchanged with an equal one does not change.
+/// would change, if any. A word exchanged with an equal one does not change.
 pub fn preview_forward(r: Record, mem: &[u32], table: &[u32]) -> Preview {
     // SAFETY: pointers and lengths come from live slices.
     unsafe { crank_preview_forward(r, mem.as_ptr(), mem.len(), table.as_ptr(), table.len()) }
@@ -239,7 +239,7 @@ pub fn preview_back(r: Record, mem: &[u32], table: &[u32]) -> Preview {
     unsafe { crank_preview_back(r, mem.as_ptr(), mem.len(), table.as_ptr(), table.len()) }
 }
 
-/// `n` turns forward, or those before the first refusal, whose number it then gives.
+/// `n` turns forward, or those before the first refusal, which is then in the answer.
 pub fn forward_batch(r: Record, n: u32, mem: &mut [u32], table: &[u32]) -> Batch {
     // SAFETY: pointers and lengths come from live slices.
     unsafe {
@@ -272,8 +272,8 @@ pub fn back_batch(r: Record, n: u32, mem: &mut [u32], table: &[u32]) -> Batch {
 /// Turns as encoder samples say, `given` being the one before them. Each is 0 to 3, in the forward
 /// cycle 0, 1, 3, 2: an equal sample turns nothing, a step along the cycle turns forward, one
 /// against it back. A turn that the machine refuses is counted, and the samples go on. They end
-/// with refusal 20 where one or `given` is above 3, with 19 where one is two steps from the one
-/// before; the turns before stand.
+/// with refusal 20 where `given` or a sample is above 3, and with 19 where a sample is two steps from
+/// the one before; the turns made until then stand.
 pub fn samples(r: Record, given: u8, samples: &[u8], mem: &mut [u32], table: &[u32]) -> Wheeled {
     // SAFETY: pointers and lengths come from live slices.
     unsafe {
@@ -290,9 +290,9 @@ pub fn samples(r: Record, given: u8, samples: &[u8], mem: &mut [u32], table: &[u
     }
 }
 
-/// Reads the image at the end of the file, of either kind, one without a position with 0: fills the
-/// first M words of `mem` and the first 9N of `table`, and no more. Refusals 1 to 6; refused, nothing
-/// is written.
+/// Reads the image at the end of the file, of either kind; without a position in it, that is 0. Fills
+/// the first M words of `mem` and the first 9N of `table`, and no more. Refusals 1 to 6; refused,
+/// nothing is written.
 pub fn load(file: &[u8], mem: &mut [u32], table: &mut [u32]) -> Loaded {
     // SAFETY: pointers and lengths come from live slices.
     unsafe {
@@ -307,7 +307,7 @@ pub fn load(file: &[u8], mem: &mut [u32], table: &mut [u32]) -> Loaded {
     }
 }
 
-/// The bytes before the image; none where `load` would refuse by 1 to 5.
+/// The bytes before the image; none where [`load`] would refuse by 1 to 5.
 pub fn preface(file: &[u8]) -> &[u8] {
     // SAFETY: pointer and length come from a live slice.
     &file[..unsafe { crank_preface_length(file.as_ptr(), file.len()) }]
@@ -330,13 +330,13 @@ pub fn save(r: Record, mem: &[u32], table: &[u32], out: &mut [u8]) -> u32 {
     }
 }
 
-/// Looks at the code words and at the links of the table. Refusals 10, 7 and 8.
+/// Checks the code words and the links of the table. Refusals 10, 7 and 8.
 pub fn check(r: Record, mem: &[u32], table: &[u32]) -> Checked {
     // SAFETY: pointers and lengths come from live slices.
     unsafe { crank_check(r, mem.as_ptr(), mem.len(), table.as_ptr(), table.len()) }
 }
 
-/// Looks at the links of one node, whatever the code words are. Gives the refusal: 10, 17 or 8.
+/// Checks the links of one node, whatever the code words are. Gives the refusal: 10, 17 or 8.
 pub fn check_node(r: Record, node: u32, mem: &[u32], table: &[u32]) -> u32 {
     // SAFETY: pointers and lengths come from live slices.
     unsafe {
@@ -351,11 +351,11 @@ pub fn check_node(r: Record, node: u32, mem: &[u32], table: &[u32]) -> u32 {
     }
 }
 
-/// Makes the qif table of the code, walking it from start to finish through both branches of every
-/// qif, uni and unib idle, in at most `limit` cycles; writes it to the first 4,599 words of `table`,
-/// zeros behind its nodes. `mem` ends as it began. `scratch` is 16 M words or more, and what it then
-/// holds is free. Refusals: 10 and 22, after which nothing is written; those of a turn, 23 and 24, after
-/// which the 4,599 words are zeros.
+/// Makes the qif table of the code: walks it from start to finish through both branches of every qif,
+/// with uni and unib idle, in at most `limit` cycles, and writes the table to the first 4,599 words of
+/// `table`, with zeros after its nodes. `mem` ends as it began. `scratch` has 16M words or more, which
+/// may then hold anything. Refusals: 10 and 22, after which nothing is written; those of a turn, 23 and
+/// 24, after which the 4,599 words are zeros.
 pub fn make_table(
     r: Record,
     limit: u32,

@@ -29,7 +29,7 @@ impl Kind {
         }
     }
 
-    /// The bytes of the trailer, which stands behind memory and table.
+    /// The bytes of the trailer, which follows memory and table.
     pub const fn trailer(self) -> usize {
         match self {
             Kind::One => 92,

@@ -3,8 +3,9 @@
 //!
 //! [`calls`] has every call of `include/crank.h`, safe to use and otherwise as it is there: the
 //! record by value, memory and table lent as slices, the answer with the refusal's number, 0 for
-//! none. Every call takes every argument. [`Machine`] keeps record, memory and table together, and
-//! [`meaning`] says a refusal in words. The machine itself is in `docs/MANUAL.md`.
+//! none. Every call takes every argument. [`calls::Bench`] is the lesson bench, which holds the record
+//! from call to call; [`Machine`] keeps record, memory and table together. [`meaning`] says a refusal in
+//! words. The machine itself is in `docs/MANUAL.md`.
 //!
 //! A turn forward executes a word, a turn back undoes it, and neither loses anything:
 //!
@@ -32,7 +33,8 @@
 //!
 //! The build needs the static libraries of the proved code; where they are missing it says what to
 //! run. The code behind these calls is proved for all arguments; the declarations in this package
-//! are not, and the tests of `rust/model` compare every call with an independent model.
+//! are not, so tests check what comes of them: those of `rust/model` compare every call by value with an
+//! independent model, those of this package every call of the lesson bench with the one by value.
 
 pub mod calls;
 mod kind;
@@ -52,9 +54,9 @@ pub const NODE_WORDS: usize = 9;
 /// The words of a node by name.
 pub const NODE_FIELDS: [&str; NODE_WORDS] =
     ["fc0", "fc1", "lc0", "lc1", "cf", "cl", "nx", "pr", "w"];
-/// Places in a node: the first child for coin 0, behind which is that for coin 1.
+/// Places in a node: the first child for coin 0, followed by that for coin 1.
 pub const FC: usize = 0;
-/// The last child for coin 0, behind which is that for coin 1.
+/// The last child for coin 0, followed by that for coin 1.
 pub const LC: usize = 2;
 /// The next node.
 pub const NX: usize = 6;

@@ -56,7 +56,7 @@ impl Machine {
         Machine { record, mem, table }
     }
 
-    /// The state in an image, behind any preface.
+    /// The state in an image, after any preface.
     ///
     /// # Errors
     ///
@@ -190,12 +190,12 @@ impl Machine {
         Ok(kind.of_saved(self.save()?))
     }
 
-    /// Looks at the code words and at the links of the table.
+    /// Checks the code words and the links of the table.
     pub fn check(&self) -> Checked {
         calls::check(self.record, &self.mem, &self.table)
     }
 
-    /// Looks at the links of one node, whatever the code words are; gives the refusal.
+    /// Checks the links of one node, whatever the code words are; gives the refusal.
     pub fn check_node(&self, node: u32) -> u32 {
         calls::check_node(self.record, node, &self.mem, &self.table)
     }

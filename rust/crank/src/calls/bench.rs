@@ -1,10 +1,38 @@
-//! The lesson bench: a record behind a reference, with every call that takes one.
+//! The lesson bench: a record that stays in one place, with every call that takes one.
 
 use super::{Checked, Loaded, Preview};
 use crate::Record;
 use std::mem::offset_of;
 
-/// The lesson bench: a record that its calls alter.
+/// The lesson bench: it holds the record from call to call. Memory and table are lent to each call.
+///
+/// Each method answers as the function of the same name in [`calls`](super) does, given the record
+/// `state`. Those that take `&mut self` leave there the record that the function would have answered,
+/// except a refused [`load`](Bench::load), which leaves the bench as it was.
+///
+/// ```
+/// use crank::calls::Bench;
+/// use crank::{image_length, Record};
+///
+/// // start; xori r1, 5; finish
+/// let mut mem = [0x1A00_0000, 0x0240_0005, 0x1B00_0000];
+/// let mut table = [];
+/// let state = Record { k: 3, m: 3, ..Record::default() };
+/// let mut bench = Bench { state };
+/// let mut image = vec![0; image_length(3, 0)];
+/// assert_eq!(bench.save(&mem, &table, &mut image), 0);
+///
+/// // A turn comes to what its preview shows.
+/// let shown = bench.preview_forward(&mem, &table);
+/// assert_eq!(bench.forward(&mut mem, &table), shown.refusal);
+/// assert_eq!(bench.state, shown.state);
+///
+/// // What is no image leaves the bench as it was; an image begins anew.
+/// assert_eq!(bench.load(b"no image", &mut mem, &mut table).refusal, 1);
+/// assert_eq!(bench.state, shown.state);
+/// assert_eq!(bench.load(&image, &mut mem, &mut table).refusal, 0);
+/// assert_eq!(bench.state, state);
+/// ```
 #[repr(C)]
 #[derive(Clone, Copy, Debug, PartialEq, Eq)]
 pub struct Bench {
@@ -17,16 +45,17 @@ pub struct Bench {
 pub struct Cranked {
     /// The turns made.
     pub turns: u32,
-    /// As that of [`Batch`](super::Batch).
+    /// As in [`Batch`](super::Batch).
     pub refusal: u32,
 }
 
-/// What the making of a qif table on the lesson bench answers: [`Made`](super::Made) without the record.
+/// What the making of a qif table on the lesson bench answers: [`Made`](super::Made) without the
+/// record.
 #[repr(C)]
 #[derive(Clone, Copy, Debug, PartialEq, Eq)]
 pub struct Tabled {
     pub refusal: u32,
-    /// As those of [`Made`](super::Made).
+    /// As in [`Made`](super::Made).
     pub cycles: u32,
 }
 
@@ -147,7 +176,7 @@ extern "C" {
 }
 
 impl Bench {
-    /// One turn forward; gives its refusal.
+    /// One turn forward; gives its refusal. Refused, nothing changes.
     pub fn forward(&mut self, mem: &mut [u32], table: &[u32]) -> u32 {
         // SAFETY: self and the slices are live and not aliased.
         unsafe {
@@ -161,7 +190,7 @@ impl Bench {
         }
     }
 
-    /// One turn back; gives its refusal.
+    /// One turn back, likewise.
     pub fn back(&mut self, mem: &mut [u32], table: &[u32]) -> u32 {
         // SAFETY: self and the slices are live and not aliased.
         unsafe {
@@ -228,8 +257,9 @@ impl Bench {
         }
     }
 
-    /// Reads the image at the end of the file, by the rules of [`load`](super::load): the bench then holds its
-    /// record. Refused, the bench and the slices are as they were, and only the answer has zeros.
+    /// Reads the image at the end of the file, by the rules of [`load`](super::load); the bench then
+    /// holds its record. Refused, the bench and the slices are as they were, and only the answer has the
+    /// record of zeros.
     pub fn load(&mut self, file: &[u8], mem: &mut [u32], table: &mut [u32]) -> Loaded {
         // SAFETY: self and the slices are live and not aliased.
         unsafe {
@@ -245,8 +275,8 @@ impl Bench {
         }
     }
 
-    /// Makes the qif table of the code, by the rules of [`make_table`](super::make_table): the bench then has the new N
-    /// and node 1. Refused, the bench is as it was.
+    /// Makes the qif table of the code, by the rules of [`make_table`](super::make_table); the record then
+    /// has the new N and stands at node 1. Refused, it is as it was.
     pub fn make_table(
         &mut self,
         limit: u32,
@@ -269,7 +299,7 @@ impl Bench {
         }
     }
 
-    /// The turn forward, shown and not made: as [`preview_forward`](super::preview_forward) with the bench's record.
+    /// The turn forward, shown and not made, as by [`preview_forward`](super::preview_forward).
     pub fn preview_forward(&self, mem: &[u32], table: &[u32]) -> Preview {
         // SAFETY: self and the slices are live.
         unsafe { bench_preview_forward(self, mem.as_ptr(), mem.len(), table.as_ptr(), table.len()) }
@@ -281,7 +311,7 @@ impl Bench {
         unsafe { bench_preview_back(self, mem.as_ptr(), mem.len(), table.as_ptr(), table.len()) }
     }
 
-    /// Writes the image to the front of `out`, as [`save`](super::save) does; gives the refusal.
+    /// Writes the image to the front of `out`, as [`save`](super::save) does. Gives the refusal.
     pub fn save(&self, mem: &[u32], table: &[u32], out: &mut [u8]) -> u32 {
         // SAFETY: self and the slices are live, and `out` is not aliased.
         unsafe {
@@ -297,13 +327,13 @@ impl Bench {
         }
     }
 
-    /// Looks at the code words and at the links of the table, as [`check`](super::check) does.
+    /// Checks the code words and the links of the table, as [`check`](super::check) does.
     pub fn check(&self, mem: &[u32], table: &[u32]) -> Checked {
         // SAFETY: self and the slices are live.
         unsafe { bench_check(self, mem.as_ptr(), mem.len(), table.as_ptr(), table.len()) }
     }
 
-    /// Looks at the links of one node, as [`check_node`](super::check_node) does; gives the refusal.
+    /// Checks the links of one node, as [`check_node`](super::check_node) does. Gives the refusal.
     pub fn check_node(&self, node: u32, mem: &[u32], table: &[u32]) -> u32 {
         // SAFETY: self and the slices are live.
         unsafe {
