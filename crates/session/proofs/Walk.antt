@@ -48,7 +48,7 @@ use Rattle.session.proofs.inside.Asked as Q
 use Rattle.session.proofs.inside.Asked.Laws as Q′
 use Rattle.session.proofs.Params as param
 use Rattle.session.proofs.Params.{Param, Env, lifetimes, values, passed, Fit, locals, locals-again, env-again, before, past, relend, operands}
-use Rattle.session.proofs.Rules.{At, here, there, at-next, at-past, finds, freed, alloc-params, pass-params, free-params, alloc-again, free-again, relends, shown, reads-params}
+use Rattle.session.proofs.Rules.{At, here, there, at-next, at-past, finds, freed, alloc-params, pass-params, free-params, alloc-again, free-again, relends, reads-params}
 use Rattle.session.proofs.Forms.{Answer, bench-val, askedOf, is-asked, Says, shape, Callee, CallLfts, others, Further, Last, further, Holds, tokens, taken, given-back, Form}
 
 -- ---- the two ways in which a bench is lent: to be looked at, and to be altered
@@ -199,7 +199,7 @@ module _ (F : Form) (L : Lending) (Y X : Answer) (finish : ℕ → Body) (key : 
           move ! (7 ∷ []) $ owned ! Q.the-row (Is Q.the-row) (LL.makes Q.the-type Q′.the-plain 𝓤 H A) (askedOf h) _ (is-asked h was) $ fjoin ! $ nothing ! $ move ! (8 ∷ 1 ∷ 0 ∷ []) $ join ! $ join ! $
           -- [that; the cells of the others; of what is lent again; the borrow; its token; …; what is asked; …]
           calls-from ! (fmOf 𝓤 H (W .laws) 𝓣) (taken ps 𝓤 A κs qs (askedOf h) z) _ _ (F .called M 𝓤 H A (Y .row) Said κs qs (askedOf h) z (𝓣 .C key) known)
-          (and-then ! (load ! (finds ! (at-next c) (stop !)) (look ! 10 refl)) (reads-params ! n κs ps 1 (others ps) ls ts z Fs a (at-next (at-next (at-next c))) (shown ! 1 refl) (shown ! 2 refl))) (λ w.
+          (and-then ! (load ! (finds ! (at-next c) (stop !)) (look ! 10 refl)) (reads-params ! n κs ps 1 (others ps) ls ts z Fs a (at-next (at-next (at-next c))))) (λ w.
           use1 W (given-back ps 𝓤 A κs qs (askedOf h) z (Y .row) Said w) (id⊢ 𝓤 _) $
           await ! tt $ pick ! (λ t. split ! $ split ! $ move ! (2 ∷ []) $ pick ! (λ ws. split ! $ move ! (1 ∷ []) $ heard ! (Holds ps Said κs (askedOf h) z t (ws .1)) (λ e. fsplit ! $ drop ! $ move ! (2 ∷ []) $
           facts ! (Y .row) (Is (Y .row)) (shows 𝓤 H A (Y .row)) t (w ∷ []) (λ is.
