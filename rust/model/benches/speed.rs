@@ -27,7 +27,7 @@ use crank_model::multiplexor::multiplexor;
 use crank_model::preview::{self, PreviewCall};
 use crank_model::state::{BatchCall, Machine, Turn, Way, WAYS};
 use crank_model::wheel::{self, SampleCall};
-use proved::bench;
+use proved::bench::{self, Bench};
 
 /// Turns made in one direction before they are made in the other; a whole
 /// number of the samples' cycles.
@@ -63,7 +63,11 @@ fn cranks() -> Vec<Crank> {
             turns: [bench::forward, bench::back],
             batches: [bench::forward_batch, bench::back_batch],
             samples: bench::samples,
-            previews: [bench::preview_forward, bench::preview_back],
+            // Without what the tests compare after each.
+            previews: [
+                |r, mem, table| Bench::new(r).preview_forward(mem, table),
+                |r, mem, table| Bench::new(r).preview_back(mem, table),
+            ],
         },
         Crank {
             name: "model",

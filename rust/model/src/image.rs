@@ -3,6 +3,13 @@
 use crate::instruction::decode;
 use crate::machine::{link, sizes_fit, sizes_in_range, Record, CF, CL, FC, LC, NODE, NX, PR};
 
+/// The calls, of the model or of the library; a load and a whole check give the
+/// refusal first.
+pub type LoadCall = fn(&[u8], &mut [u32], &mut [u32]) -> (u32, Record);
+pub type SaveCall = fn(Record, &[u32], &[u32], &mut [u8]) -> u32;
+pub type CheckCall = fn(Record, &[u32], &[u32]) -> (u32, u32);
+pub type CheckNodeCall = fn(Record, u32, &[u32], &[u32]) -> u32;
+
 /// The bytes of the shortest trailer.
 pub const TRAILER: usize = 92;
 pub const MAX_FILE: usize = 65_536;

@@ -8,6 +8,7 @@ use crank_model::image::{self, SAVED};
 use crank_model::instruction::{word_i, word_r};
 use crank_model::machine::{Record, CF, FC, NODE};
 use crank_model::state::{Machine, Turn, WAYS};
+use proved::{by_callers, AS_SHOWN, CHECKS, IMAGES, PREVIEWS};
 
 const R1: usize = 4;
 const R2: usize = 5;
@@ -162,42 +163,62 @@ fn turns() {
 #[test]
 fn previews() {
     use crank_model::compare::same_preview;
-    let calls = [proved::preview_forward, proved::preview_back];
-    let mut changes = [0; 2];
-    each(|start| {
-        for way in WAYS {
-            let shown = same_preview(way, &start, calls[way as usize]);
-            changes[way as usize] += shown.changes;
+    let model = WAYS.map(|way| way.model());
+    for ((_, calls), (name, turns)) in PREVIEWS.into_iter().skip(1).zip(AS_SHOWN) {
+        let mut changes = [0; 2];
+        each(|start| {
+            for way in WAYS {
+                let shown = same_preview(way, &start, calls[way as usize]);
+                changes[way as usize] += shown.changes;
+            }
+        });
+        assert_eq!(seen(turns), seen(model), "{name}");
+        assert!(changes.iter().all(|count| *count > 0), "{name}");
+        println!("limits: {name} with a changed word, forward and back {changes:?}");
+    }
+}
+
+/// The checks of a machine, whole and of its nodes, by every caller.
+fn same_checks(m: &Machine, cover: &mut Cover) {
+    let expected = image::check(m.record, &m.mem, &m.table);
+    for (name, check, _) in &CHECKS[1..] {
+        let found = check(m.record, &m.mem, &m.table);
+        assert_eq!(found, expected, "{name}: {:?}", m.record);
+    }
+    for node in asked(m.record.n) {
+        let expected = image::check_node(m.record, node, &m.mem, &m.table);
+        for (name, _, check_node) in &CHECKS[1..] {
+            let found = check_node(m.record, node, &m.mem, &m.table);
+            assert_eq!(found, expected, "{name}: {node} of {:?}", m.record);
         }
-    });
-    let turns: [Turn; 2] = [proved::forward_as_shown, proved::back_as_shown];
-    assert_eq!(seen(turns), seen(WAYS.map(|way| way.model())));
-    assert!(changes.iter().all(|count| *count > 0));
-    println!("limits: previews with a changed word, forward and back {changes:?}");
+        cover.count(&format!("answer {expected}"));
+    }
+}
+
+/// Saves into as many bytes as are needed and into one fewer, by every caller.
+fn same_saves(m: &Machine, cover: &mut Cover) {
+    let fits = SAVED.back_length(m.record.m, m.record.n).min(52_000) as usize;
+    for len in [fits, fits - 1] {
+        let mut model_out = vec![7; len];
+        let expected = image::save(m.record, &m.mem, &m.table, &mut model_out);
+        for (name, _, save) in &IMAGES[1..] {
+            let mut out = vec![7; len];
+            let found = save(m.record, &m.mem, &m.table, &mut out);
+            assert_eq!(found, expected, "{name}: {:?}", m.record);
+            assert!(out == model_out, "{name}: {:?}", m.record);
+        }
+        cover.count(&format!("save {expected}"));
+    }
 }
 
 #[test]
 fn check_and_save() {
     let mut cover = Cover::default();
     each(|m| {
-        let expected = image::check(m.record, &m.mem, &m.table);
-        let found = proved::check(m.record, &m.mem, &m.table);
-        assert_eq!(found, expected, "{:?}", m.record);
-        for node in asked(m.record.n) {
-            let expected = image::check_node(m.record, node, &m.mem, &m.table);
-            let found = proved::check_node(m.record, node, &m.mem, &m.table);
-            assert_eq!(found, expected, "{node} of {:?}", m.record);
-            cover.count(&format!("answer {expected}"));
-        }
-        let fits = SAVED.back_length(m.record.m, m.record.n).min(52_000) as usize;
-        for len in [fits, fits - 1] {
-            let (mut out, mut model_out) = (vec![7; len], vec![7; len]);
-            let found = proved::save(m.record, &m.mem, &m.table, &mut out);
-            let expected = image::save(m.record, &m.mem, &m.table, &mut model_out);
-            assert_eq!(found, expected, "{:?}", m.record);
-            assert!(out == model_out, "{:?}", m.record);
-        }
+        same_checks(&m, &mut cover);
+        same_saves(&m, &mut cover);
     });
-    cover.summary("limits, check of one node");
+    cover.summary(&by_callers("limits, check of one node and save"));
     cover.demand(&["answer 0", "answer 10", "answer 17"]);
+    cover.demand(&["save 0", "save 9", "save 10"]);
 }

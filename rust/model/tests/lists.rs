@@ -104,7 +104,7 @@ fn library() {
 }
 
 mod bench {
-    use super::proved::Bench;
+    use super::proved::bench::Bench;
     use super::*;
 
     /// Makes one call on the bench and shows its record in the machine.

@@ -213,6 +213,8 @@ fn library() {
 
 #[test]
 fn previews() {
-    let (forward, back) = (proved::forward_as_shown, proved::back_as_shown);
-    marks(forward, back, proved::is_instruction);
+    for (name, [forward, back]) in proved::AS_SHOWN {
+        println!("by {name}:");
+        marks(forward, back, proved::is_instruction);
+    }
 }

@@ -297,5 +297,8 @@ fn library() {
 
 #[test]
 fn previews() {
-    all(proved::forward_as_shown, proved::back_as_shown);
+    for (name, [forward, back]) in proved::AS_SHOWN {
+        println!("by {name}:");
+        all(forward, back);
+    }
 }

@@ -117,5 +117,8 @@ fn library() {
 
 #[test]
 fn previews() {
-    slips(proved::forward_as_shown, proved::back_as_shown);
+    for (name, [forward, back]) in proved::AS_SHOWN {
+        println!("by {name}:");
+        slips(forward, back);
+    }
 }

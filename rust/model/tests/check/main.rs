@@ -1,5 +1,6 @@
-//! The check of code and table, whole and of one node: library and model on
-//! small cases and against each other, and the two calls against each other.
+//! The check of code and table, whole and of one node: library, lesson bench and
+//! model on small cases and against each other, and the two calls against each
+//! other.
 
 #[path = "../proved/mod.rs"]
 mod proved;
@@ -12,31 +13,32 @@ mod sizes;
 mod ties;
 mod whole;
 
-use crank_model::image;
-use crank_model::machine::Record;
+use crank_model::image::{CheckCall, CheckNodeCall};
 use crank_model::state::Machine;
+use proved::CHECKS;
 
-type Check = fn(Record, &[u32], &[u32]) -> (u32, u32);
-type CheckNode = fn(Record, u32, &[u32], &[u32]) -> u32;
-
-/// The whole check and that of one node, of the model or of the library.
+/// The whole check and that of one node, by who makes them.
 struct Calls {
     name: &'static str,
-    check: Check,
-    check_node: CheckNode,
+    check: CheckCall,
+    check_node: CheckNodeCall,
 }
 
-const MODEL: Calls = Calls {
-    name: "model",
-    check: image::check,
-    check_node: image::check_node,
-};
+const fn calls((name, check, check_node): (&'static str, CheckCall, CheckNodeCall)) -> Calls {
+    Calls {
+        name,
+        check,
+        check_node,
+    }
+}
 
-const LIBRARY: Calls = Calls {
-    name: "library",
-    check: proved::check,
-    check_node: proved::check_node,
-};
+const MODEL: Calls = calls(CHECKS[0]);
+const LIBRARY: Calls = calls(CHECKS[1]);
+const BENCH: Calls = calls(CHECKS[2]);
+
+/// All callers, and those beside the model.
+const CALLS: [Calls; 3] = [MODEL, LIBRARY, BENCH];
+const PROVED: [Calls; 2] = [LIBRARY, BENCH];
 
 impl Calls {
     fn whole(&self, m: &Machine) -> (u32, u32) {

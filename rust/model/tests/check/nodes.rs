@@ -1,15 +1,20 @@
-//! One node: the library against the model, for every node of a machine.
+//! One node: library and lesson bench against the model, for every node of a
+//! machine.
 
 use crank_model::cover::Cover;
 use crank_model::state::Machine;
 
 use super::machines::{count_ends, each, every_link};
-use super::{LIBRARY, LINKS, MODEL};
+use super::proved::by_callers;
+use super::{LINKS, MODEL, PROVED};
 
-/// The answer about a node, which library and model share.
+/// The answer about a node, which all callers share.
 fn same_answer(m: &Machine, node: u32) -> u32 {
     let expected = MODEL.node(m, node);
-    assert_eq!(LIBRARY.node(m, node), expected, "node {node} of {m:?}");
+    for calls in &PROVED {
+        let (name, found) = (calls.name, calls.node(m, node));
+        assert_eq!(found, expected, "{name}: node {node} of {m:?}");
+    }
     expected
 }
 
@@ -59,7 +64,7 @@ fn machines() {
         assert!(*m == before, "written to: {before:?}");
         count_ends(m, &mut cover);
     });
-    cover.summary("nodes of machines");
+    cover.summary(&by_callers("nodes of machines"));
     cover.demand(&CASES);
     cover.demand(&["N 0", "N 511"]);
     assert_eq!(cover.times("another number"), 0);
@@ -85,7 +90,7 @@ fn changed_links() {
             }
         }
     });
-    cover.summary("nodes with changed links");
+    cover.summary(&by_callers("nodes with changed links"));
     for name in LINKS {
         cover.demand(&[&format!("8 by {name}")]);
     }

@@ -1,13 +1,11 @@
 //! One node: cases worked out by hand from the text of #105 and document 01's
-//! rule of paired links, in the model and in the library.
+//! rule of paired links, in the model, in the library and on the lesson bench.
 
 use crank_model::cover::Cover;
 use crank_model::machine::{Record, NODE};
 use crank_model::state::Machine;
 
-use super::{Calls, LIBRARY, MODEL};
-
-pub const CALLS: [Calls; 2] = [MODEL, LIBRARY];
+use super::CALLS;
 
 /// start, xori r1,5 and finish; one word that is no instruction among them; and
 /// nothing but such words.
@@ -74,7 +72,7 @@ pub fn expect(about: &str, m: &Machine, answers: &[u32], cover: &mut Cover) {
 
 /// Says what was asked for, and fails if one of the answers was not.
 pub fn sum_up(title: &str, cover: &Cover) {
-    cover.summary(&format!("by hand: {title}"));
+    cover.summary(&format!("by hand: {title}, {} callers", CALLS.len()));
     cover.demand(&["0", "8", "17"]);
 }
 

@@ -6,8 +6,8 @@ use crank_model::machine::{Record, NODE};
 use crank_model::state::Machine;
 
 use super::links::RETURNS;
-use super::papers::{expect, linked, machine_of, sum_up, BARE, CALLS};
-use super::LINKS;
+use super::papers::{expect, linked, machine_of, sum_up, BARE};
+use super::{CALLS, LINKS};
 
 /// M, K and N, and the words of lent memory and table.
 type Sizes = ([u32; 3], [usize; 2]);

@@ -1,12 +1,12 @@
-//! The two calls against each other, in the library and in the model: behind 10
-//! and 7 the whole check gives the lowest node that the other gives 8 for.
+//! The two calls against each other, of each caller: behind 10 and 7 the whole
+//! check gives the lowest node that the other gives 8 for.
 
 use crank_model::cover::Cover;
 use crank_model::instruction::{decode, START};
 use crank_model::state::Machine;
 
 use super::machines::{count_ends, each, every_link};
-use super::{Calls, LIBRARY, MODEL};
+use super::{Calls, CALLS};
 
 /// The code words of a machine whose sizes fit.
 fn code(m: &Machine) -> &[u32] {
@@ -80,22 +80,21 @@ const CASES: [&str; 9] = [
     "N 511",
 ];
 
-fn all(calls: &Calls, seed: u64) {
-    let mut cover = Cover::default();
-    each(seed, |m, nodes| tied(calls, m, nodes, &mut cover));
-    every_link(seed, 10, |m, changed, _| {
-        tied(calls, m, &[0, changed, m.record.n + 1], &mut cover)
+/// The same machines for every caller.
+#[test]
+fn whole_and_by_nodes() {
+    let mut covers = CALLS.map(|_| Cover::default());
+    let mut all = |m: &Machine, nodes: &[u32]| {
+        for (calls, cover) in CALLS.iter().zip(&mut covers) {
+            tied(calls, m, nodes, cover);
+        }
+    };
+    each(77, &mut all);
+    every_link(78, 10, |m, changed, _| {
+        all(m, &[0, changed, m.record.n + 1])
     });
-    cover.summary(&format!("{} whole and by nodes", calls.name));
-    cover.demand(&CASES);
-}
-
-#[test]
-fn model() {
-    all(&MODEL, 77);
-}
-
-#[test]
-fn library() {
-    all(&LIBRARY, 78);
+    for (calls, cover) in CALLS.iter().zip(&covers) {
+        cover.summary(&format!("{} whole and by nodes", calls.name));
+        cover.demand(&CASES);
+    }
 }

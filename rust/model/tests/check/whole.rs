@@ -1,4 +1,5 @@
-//! The whole check: the model on small cases, and the library against the model.
+//! The whole check: each caller on small cases, and library and lesson bench
+//! against the model.
 
 use crank_model::cover::Cover;
 use crank_model::machine::{FC, NODE, W};
@@ -6,7 +7,8 @@ use crank_model::rng::{rounds, Rng};
 use crank_model::state::Machine;
 
 use super::machines::{any, every_link, sound};
-use super::{Calls, LIBRARY, LINKS, MODEL};
+use super::proved::by_callers;
+use super::{Calls, CALLS, LINKS, MODEL, PROVED};
 
 /// Damages one link of one node; nothing before it may be blamed but nodes
 /// whose own links it unpairs.
@@ -39,24 +41,21 @@ fn one_link(calls: &Calls, rng: &mut Rng) {
 }
 
 #[test]
-fn model() {
-    let mut rng = Rng::new(71);
-    for _ in 0..500 {
-        one_link(&MODEL, &mut rng);
+fn small_cases() {
+    for (calls, seed) in CALLS.into_iter().zip(152..) {
+        let mut rng = Rng::new(seed);
+        for _ in 0..500 {
+            one_link(&calls, &mut rng);
+        }
     }
-}
-
-#[test]
-fn library() {
-    let mut rng = Rng::new(72);
-    for _ in 0..500 {
-        one_link(&LIBRARY, &mut rng);
-    }
+    println!("one link: 500 machines, {} callers", CALLS.len());
 }
 
 fn compare(m: &Machine, cover: &mut Cover) {
     let expected = MODEL.whole(m);
-    assert_eq!(LIBRARY.whole(m), expected, "{m:?}");
+    for calls in &PROVED {
+        assert_eq!(calls.whole(m), expected, "{}: {m:?}", calls.name);
+    }
     match expected {
         (0, _) => cover.count("check 0"),
         (7, 0) => cover.count("check 7 at 0"),
@@ -74,7 +73,7 @@ fn random_machines() {
     for _ in 0..rounds(60_000) {
         compare(&any(&mut rng), &mut cover);
     }
-    cover.summary("check");
+    cover.summary(&by_callers("check"));
     cover.demand(&[
         "check 0",
         "check 7 at 0",
@@ -89,6 +88,6 @@ fn random_machines() {
 fn changed_links() {
     let mut cover = Cover::default();
     every_link(74, 40, |m, _, _| compare(m, &mut cover));
-    cover.summary("every link");
+    cover.summary(&by_callers("every link"));
     cover.demand(&["check 0", "check 8 at 1", "check 8 later"]);
 }

@@ -120,7 +120,7 @@ fn by_hand() {
         answers += all_rows(k, m, &mut mem, table);
     }
     println!("edges: {rows} rows, {answers} answers");
-    assert_eq!((rows, answers), (64, 64 * 12));
+    assert_eq!((rows, answers), (64, 64 * 16));
 }
 
 /// The largest memory, with a word more lent. What stands at 8,190, 8,191 and
@@ -164,5 +164,5 @@ fn largest_memory() {
         answers += all_rows(k, 8192, &mut mem, table);
     }
     println!("largest memory: {rows} rows, {answers} answers");
-    assert_eq!((rows, answers), (16, 16 * 12));
+    assert_eq!((rows, answers), (16, 16 * 16));
 }

@@ -40,7 +40,7 @@ fn by_pc() {
         }
     }
     println!("by pc: {cases} cases, {answers} answers");
-    assert_eq!((cases, answers), (20, 20 * 12));
+    assert_eq!((cases, answers), (20, 20 * 16));
 }
 
 /// Without data, and with nothing but the word itself before K.
@@ -61,5 +61,5 @@ fn no_data() {
         }
     }
     println!("by pc without data: {answers} answers");
-    assert_eq!(answers, 6 * 12);
+    assert_eq!(answers, 6 * 16);
 }

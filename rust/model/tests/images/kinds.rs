@@ -2,13 +2,16 @@
 //! the other by their last byte, and kind 1 loaded and saved as kind 2.
 
 use crank_model::cover::Cover;
-use crank_model::image::KINDS;
+use crank_model::image::{LoadCall, SaveCall, KINDS};
 use crank_model::machine::Record;
 use crank_model::positions::EDGES;
 use crank_model::rng::{rounds, Rng};
 use crank_model::state::Machine;
 
-use super::{image_of, proved, random_machine, same_load, same_save, sized};
+use super::proved::IMAGES;
+use super::{by_callers, image_of, random_machine, same_load, same_save, sized};
+
+type Calls = (&'static str, LoadCall, SaveCall);
 
 /// Patterns of 64 bits: each bit alone and each alone missing, whole words, and
 /// noise in one or both of them.
@@ -47,7 +50,7 @@ fn every_pattern() {
             _ => "both words",
         });
     }
-    cover.summary("patterns of the position");
+    cover.summary(&by_callers("patterns of the position"));
     cover.demand(&["no word", "high word alone", "low word alone", "both words"]);
 }
 
@@ -85,15 +88,32 @@ fn by_the_last_byte() {
         assert_eq!([r.qifv, r.qifw], low_and_high);
         assert_eq!([r.regs[14], r.regs[15]], [s.qifv, s.qifw]);
     }
-    cover.summary("files of either kind");
+    cover.summary(&by_callers("files of either kind"));
 }
 
-/// Loads with the library into words of other values.
-fn loaded(rng: &mut Rng, file: &[u8], like: &Machine) -> Machine {
+/// Loads into words of other values.
+fn loaded(rng: &mut Rng, load: LoadCall, file: &[u8], like: &Machine) -> Machine {
     let (mut mem, mut table) = (rng.words(like.mem.len()), rng.words(like.table.len()));
-    let (refusal, record) = proved::load(file, &mut mem, &mut table);
+    let (refusal, record) = load(file, &mut mem, &mut table);
     assert_eq!(refusal, 0);
     Machine { record, mem, table }
+}
+
+/// Loads the image of kind 1, saves it as kind 2 and loads that; gives what the
+/// first load and the second came to.
+fn saved_again(rng: &mut Rng, file: &[u8], like: &Machine, calls: &Calls) -> [Machine; 2] {
+    let (_, load, save) = *calls;
+    let first = loaded(rng, load, file, like);
+    let mut out = vec![0; file.len() + 8];
+    let refusal = save(first.record, &first.mem, &first.table, &mut out);
+    assert_eq!(refusal, 0);
+    // All but back is the same up to the position.
+    let (back, end) = (file.len() - 92, file.len() - 4);
+    assert_eq!(out[..back], file[..back]);
+    assert_eq!(out[back + 4..end], file[back + 4..end]);
+    assert_eq!(out[end..end + 8], [0; 8]);
+    let second = loaded(rng, load, &out, like);
+    [first, second]
 }
 
 /// A file of kind 1 is loaded, saved as kind 2 and loaded: the same state, with
@@ -105,26 +125,20 @@ fn kind_1_saved_as_kind_2() {
     for _ in 0..rounds(5_000) {
         let machine = random_machine(&mut rng);
         let file = image_of(KINDS[0], &machine, &[]);
-        let first = loaded(&mut rng, &file, &machine);
-        let mut out = vec![0; file.len() + 8];
-        assert_eq!(same_save(&first, &out[..file.len()], &mut cover), 9);
-        assert_eq!(same_save(&first, &out, &mut cover), 0);
-        proved::save(first.record, &first.mem, &first.table, &mut out);
-        // All but back is the same up to the position.
-        let (back, end) = (file.len() - 92, file.len() - 4);
-        assert_eq!(out[..back], file[..back]);
-        assert_eq!(out[back + 4..end], file[back + 4..end]);
-        assert_eq!(out[end..end + 8], [0; 8]);
-        let second = loaded(&mut rng, &out, &machine);
-        assert_eq!(second.record, first.record);
-        assert_eq!(second.counted(), first.counted());
         let expected = Record {
             position: 0,
             ..machine.record
         };
-        assert_eq!(first.record, expected);
-        assert_eq!(first.counted(), machine.counted());
+        for calls in &IMAGES[1..] {
+            let [first, second] = saved_again(&mut rng, &file, &machine, calls);
+            assert_eq!([first.record, second.record], [expected; 2]);
+            assert_eq!(first.counted(), machine.counted());
+            assert_eq!(second.counted(), machine.counted());
+            let out = rng.bytes(file.len() + 8);
+            assert_eq!(same_save(&first, &out[..file.len()], &mut cover), 9);
+            assert_eq!(same_save(&first, &out, &mut cover), 0);
+        }
     }
-    cover.summary("kind 1 saved as kind 2");
+    cover.summary(&by_callers("kind 1 saved as kind 2"));
     cover.demand(&["save 0", "save 9"]);
 }

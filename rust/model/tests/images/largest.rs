@@ -4,7 +4,7 @@ use crank_model::cover::Cover;
 use crank_model::image::KINDS;
 use crank_model::rng::Rng;
 
-use super::{demand_loads, image_of, same_load, same_save, sized, ENDINGS};
+use super::{by_callers, demand_loads, image_of, same_load, same_save, sized, ENDINGS};
 
 /// The bytes of the largest image of each kind.
 const LENGTHS: [usize; 2] = [51_256, 51_264];
@@ -34,7 +34,7 @@ fn load() {
         let too_long = image_of(kind, &machine, &[&longest[..], &[0]].concat());
         assert_eq!(same_load(&too_long, &[], &[], &mut cover).0, 1);
     }
-    cover.summary("largest images");
+    cover.summary(&by_callers("largest images"));
     for ending in &ENDINGS[..2] {
         demand_loads(&cover, ending, &[0, 1, 5, 6]);
     }
@@ -55,5 +55,6 @@ fn save() {
         let refusal = same_save(&machine, &vec![0x55; len], &mut cover);
         assert_eq!(refusal, expected, "{len} bytes");
     }
-    cover.summary("largest saves");
+    cover.summary(&by_callers("largest saves"));
+    cover.demand(&["save 0", "save 9"]);
 }

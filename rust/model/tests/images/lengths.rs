@@ -5,7 +5,7 @@ use crank_model::cover::Cover;
 use crank_model::image::KINDS;
 use crank_model::rng::Rng;
 
-use super::{demand_loads, image_of, same_load, sized, ENDINGS};
+use super::{by_callers, demand_loads, image_of, same_load, sized, ENDINGS};
 
 /// The last `length` bytes of a file, or all of it after so many bytes that it
 /// has this length.
@@ -70,7 +70,7 @@ fn by_hand() {
             assert_eq!(refusal, expected, "{length} bytes");
         }
     }
-    cover.summary("file lengths by hand");
+    cover.summary(&by_callers("file lengths by hand"));
 }
 
 /// The refusal where what stands before the end is an image of this kind.
@@ -108,7 +108,7 @@ fn every_short_length() {
             same_load(&noise, &mem, &table, &mut cover);
         }
     }
-    cover.summary("every length to 110");
+    cover.summary(&by_callers("every length to 110"));
     demand_loads(&cover, ENDINGS[0], &[0, 1, 3, 5]);
     demand_loads(&cover, ENDINGS[1], &[0, 1, 3, 5]);
     demand_loads(&cover, ENDINGS[2], &[1, 2]);
@@ -136,7 +136,7 @@ fn every_wrong_end() {
             }
         }
     }
-    cover.summary("every wrong end");
+    cover.summary(&by_callers("every wrong end"));
     assert_eq!(wrong, 2 * 9 * (3 * 255 + 254));
 }
 
@@ -154,7 +154,7 @@ fn noise() {
             same_load(&file, &mem, &table, &mut cover);
         }
     }
-    cover.summary("noise of every length to 199");
+    cover.summary(&by_callers("noise of every length to 199"));
     demand_loads(&cover, ENDINGS[0], &[1, 3]);
     demand_loads(&cover, ENDINGS[1], &[1, 3]);
     demand_loads(&cover, ENDINGS[2], &[1, 2]);

@@ -1,8 +1,10 @@
-//! Load, preface and save, of both kinds of image: library and model agree.
+//! Load, preface and save, of both kinds of image: library, lesson bench and
+//! model agree.
 
 #[path = "../proved/mod.rs"]
 mod proved;
 
+mod held;
 mod kinds;
 mod largest;
 mod lengths;
@@ -19,6 +21,7 @@ use crank_model::positions::any;
 use crank_model::rng::Rng;
 use crank_model::state::Machine;
 use crank_model::structured;
+use proved::{by_callers, IMAGES};
 
 /// What a file ends in: the last four bytes of kind 1, of kind 2, or neither.
 const ENDINGS: [&str; 3] = ["kind 1", "kind 2", "wrong end"];
@@ -40,39 +43,42 @@ fn demand_loads(cover: &Cover, ending: &str, refusals: &[u32]) {
     }
 }
 
-/// Loads with library and model into equal buffers and compares everything.
-/// Gives the refusal and the record.
+/// Loads with every caller into equal buffers and compares everything. Gives the
+/// refusal and the record.
 fn same_load(file: &[u8], mem: &[u32], table: &[u32], cover: &mut Cover) -> (u32, Record) {
     let (mut model_mem, mut model_table) = (mem.to_vec(), table.to_vec());
     let expected = image::load(file, &mut model_mem, &mut model_table);
-    let (mut own_mem, mut own_table) = (mem.to_vec(), table.to_vec());
-    let found = proved::load(file, &mut own_mem, &mut own_table);
-    let ending = ending(file);
-    let about = format!(
-        "{ending}, {} bytes, {} and {}",
-        file.len(),
-        mem.len(),
-        table.len()
-    );
-    assert_eq!(found, expected, "{about}");
-    assert!(own_mem == model_mem && own_table == model_table, "{about}");
     if expected.0 != 0 {
-        assert_eq!(found.1, Record::default());
-        assert!(own_mem == mem && own_table == table);
+        assert_eq!(expected.1, Record::default());
+        assert!(model_mem == mem && model_table == table);
     }
+    let ending = ending(file);
+    let lent = (mem.len(), table.len());
+    let about = format!("{ending}, {} bytes, {lent:?} words", file.len());
+    for (caller, load, _) in &IMAGES[1..] {
+        let (mut own_mem, mut own_table) = (mem.to_vec(), table.to_vec());
+        let found = load(file, &mut own_mem, &mut own_table);
+        assert_eq!(found, expected, "{caller}: {about}");
+        let same = own_mem == model_mem && own_table == model_table;
+        assert!(same, "{caller}: words of {about}");
+    }
+    cover.count(&load_case(ending, expected.0));
     let preface = proved::preface_length(file);
     assert_eq!(preface, image::preface(file).len(), "{about}");
-    cover.count(&load_case(ending, expected.0));
     expected
 }
 
-/// Saves with library and model into equal buffers and compares everything.
+/// Saves with every caller into equal buffers and compares everything.
 fn same_save(m: &Machine, out: &[u8], cover: &mut Cover) -> u32 {
-    let (mut model_out, mut own_out) = (out.to_vec(), out.to_vec());
+    let mut model_out = out.to_vec();
     let expected = image::save(m.record, &m.mem, &m.table, &mut model_out);
-    let found = proved::save(m.record, &m.mem, &m.table, &mut own_out);
-    assert_eq!(found, expected, "{} bytes for {m:?}", out.len());
-    assert_eq!(own_out, model_out);
+    for (caller, _, save) in &IMAGES[1..] {
+        let mut own_out = out.to_vec();
+        let found = save(m.record, &m.mem, &m.table, &mut own_out);
+        let about = format!("{caller}, {} bytes for {:?}", out.len(), m.record);
+        assert_eq!(found, expected, "{about}");
+        assert!(own_out == model_out, "bytes of {about}");
+    }
     cover.count(match expected {
         0 => "save 0",
         9 => "save 9",

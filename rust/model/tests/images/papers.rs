@@ -1,14 +1,9 @@
 //! Bytes worked out by hand: the image of document 01, and the same of kind 2.
 
-use crank_model::image;
+use crank_model::image::{self, LoadCall};
 use crank_model::machine::Record;
 
-use super::proved;
-
-type Load = fn(&[u8], &mut [u32], &mut [u32]) -> (u32, Record);
-type Save = fn(Record, &[u32], &[u32], &mut [u8]) -> u32;
-
-const CALLS: [(Load, Save); 2] = [(image::load, image::save), (proved::load, proved::save)];
+use super::proved::{self, IMAGES};
 
 const MEM: [u32; 4] = [0x1A00_0000, 0x0240_0005, 0x1B00_0000, 0];
 const BODY: [u8; 16] = [0, 0, 0, 0x1A, 5, 0, 0x40, 0x02, 0, 0, 0, 0x1B, 0, 0, 0, 0];
@@ -62,33 +57,35 @@ const POSITIONS: [(i64, [u8; 8]); 12] = [
     (i64::MIN, [0, 0, 0, 0, 0, 0, 0, 128]),
 ];
 
-fn loads(load: Load, file: &[u8], position: i64) {
+fn loads(name: &str, load: LoadCall, file: &[u8], position: i64) {
     for preface in [&b""[..], b"before"] {
         let mut mem = [9; 5];
         let found = load(&[preface, file].concat(), &mut mem, &mut []);
-        assert_eq!(found, (0, record(position)));
-        assert_eq!((&mem[..4], mem[4]), (&MEM[..], 9));
+        assert_eq!(found, (0, record(position)), "{name}");
+        assert_eq!((&mem[..4], mem[4]), (&MEM[..], 9), "{name}");
     }
 }
 
 #[test]
 fn bytes() {
     assert_eq!((kind_1().len(), kind_2([0; 8]).len()), (108, 116));
-    for (load, save) in CALLS {
-        loads(load, &kind_1(), 0);
+    for (name, load, save) in IMAGES {
+        loads(name, load, &kind_1(), 0);
         for (position, bytes) in POSITIONS {
             let expected = kind_2(bytes);
-            loads(load, &expected, position);
+            loads(name, load, &expected, position);
             for (len, refusal) in [(0, 9), (108, 9), (115, 9), (116, 0), (118, 0)] {
                 let mut out = vec![0xAA; len];
-                assert_eq!(save(record(position), &MEM, &[], &mut out), refusal);
+                let found = save(record(position), &MEM, &[], &mut out);
+                assert_eq!(found, refusal, "{name}");
                 let written = if refusal == 0 { 116 } else { 0 };
-                assert_eq!(out[..written], expected[..written]);
+                assert_eq!(out[..written], expected[..written], "{name}");
                 assert!(out[written..].iter().all(|byte| *byte == 0xAA));
             }
         }
     }
-    println!("by hand: {} positions", POSITIONS.len());
+    let (positions, callers) = (POSITIONS.len(), IMAGES.len());
+    println!("by hand: {positions} positions, {callers} callers");
 }
 
 #[test]

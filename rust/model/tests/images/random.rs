@@ -5,7 +5,9 @@ use crank_model::image::{Kind, KINDS};
 use crank_model::machine::NODE;
 use crank_model::rng::{rounds, Rng};
 
-use super::{around, demand_loads, ending, image_of, random_machine, same_load, ENDINGS};
+use super::{
+    around, by_callers, demand_loads, ending, image_of, random_machine, same_load, ENDINGS,
+};
 
 /// Changes one bit of a stretch that ends so many bytes before the file's end.
 fn flip(rng: &mut Rng, file: &mut [u8], from_end: usize, len: usize) {
@@ -86,7 +88,7 @@ fn files() {
             assert_eq!(record, expected);
         }
     }
-    cover.summary("random files");
+    cover.summary(&by_callers("random files"));
     demand_loads(&cover, ENDINGS[0], &[0, 1, 3, 4, 5, 6]);
     demand_loads(&cover, ENDINGS[1], &[0, 1, 3, 4, 5, 6]);
     demand_loads(&cover, ENDINGS[2], &[1, 2]);

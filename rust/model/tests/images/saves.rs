@@ -8,7 +8,8 @@ use crank_model::machine::sizes_fit;
 use crank_model::rng::{rounds, Rng};
 use crank_model::state::Machine;
 
-use super::{around, proved, random_machine, same_save};
+use super::proved::{self, IMAGES};
+use super::{around, by_callers, random_machine, same_save};
 
 /// The length of what save writes; any where it is refused by 10.
 fn needed(m: &Machine) -> usize {
@@ -18,18 +19,19 @@ fn needed(m: &Machine) -> usize {
     }
 }
 
+/// By every caller, which loads what it saved.
 fn round_trip(rng: &mut Rng, machine: &Machine, back: usize) {
-    let mut out = rng.bytes(back);
-    assert_eq!(
-        proved::save(machine.record, &machine.mem, &machine.table, &mut out),
-        0
-    );
-    let (mut mem, mut table) = (rng.words(machine.mem.len()), rng.words(machine.table.len()));
-    let (refusal, record) = proved::load(&out, &mut mem, &mut table);
-    assert_eq!((refusal, record), (0, machine.record));
-    let loaded = Machine { record, mem, table };
-    assert_eq!(loaded.counted(), machine.counted());
-    assert_eq!(proved::preface_length(&out), 0);
+    for (name, load, save) in &IMAGES[1..] {
+        let mut out = rng.bytes(back);
+        let refusal = save(machine.record, &machine.mem, &machine.table, &mut out);
+        assert_eq!(refusal, 0, "{name}");
+        let (mut mem, mut table) = (rng.words(machine.mem.len()), rng.words(machine.table.len()));
+        let (refusal, record) = load(&out, &mut mem, &mut table);
+        assert_eq!((refusal, record), (0, machine.record), "{name}");
+        let loaded = Machine { record, mem, table };
+        assert_eq!(loaded.counted(), machine.counted(), "{name}");
+        assert_eq!(proved::preface_length(&out), 0);
+    }
 }
 
 #[test]
@@ -57,7 +59,7 @@ fn round_trips() {
             });
         }
     }
-    cover.summary("saves");
+    cover.summary(&by_callers("saves"));
     cover.demand(&["save 0", "save 9", "save 10"]);
     cover.demand(&["position 0", "position above 0", "position below 0"]);
 }
@@ -82,5 +84,6 @@ fn output_lengths() {
             assert_eq!(refusal, expected, "{len} bytes, back {back}");
         }
     }
-    cover.summary("lengths of the output");
+    cover.summary(&by_callers("lengths of the output"));
+    cover.demand(&["save 0", "save 9"]);
 }

@@ -5,7 +5,7 @@ use crank_model::cover::Cover;
 use crank_model::image::{Kind, KINDS};
 use crank_model::machine::NODE;
 
-use super::{demand_loads, same_load, ENDINGS};
+use super::{by_callers, demand_loads, same_load, ENDINGS};
 
 /// A file of zeros that ends in a trailer with the given fields.
 fn with_trailer(kind: Kind, length: usize, fields: [u32; 4]) -> Vec<u8> {
@@ -92,7 +92,7 @@ fn fields() {
             }
         }
     }
-    cover.summary("size fields");
+    cover.summary(&by_callers("size fields"));
     for ending in &ENDINGS[..2] {
         demand_loads(&cover, ending, &[0, 3, 4]);
     }

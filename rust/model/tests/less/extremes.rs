@@ -77,5 +77,5 @@ fn by_every_caller() {
         signs.apart()
     );
     assert_eq!(signs, Signs([[[6, 3], [9, 0]], [[0, 9], [6, 3]]]));
-    assert_eq!((signs.apart(), answers), (18, 36 * 6 * 156));
+    assert_eq!((signs.apart(), answers), (18, 36 * 6 * 204));
 }

@@ -103,7 +103,7 @@ fn all_registers() {
     }
     println!("names: {done} done, {refusals} refused, {answers} answers, {signs:?}");
     assert_eq!((done, refusals), (3 * 14 * 14 * 13, 3 * 4_096 - 7_644));
-    assert_eq!(answers, (PAIRS.len() * done + refusals) * 24);
+    assert_eq!(answers, (PAIRS.len() * done + refusals) * 28);
     // Two of the pairs of each less have one word alone below 0.
     assert!(signs.apart() >= 2 * (done / 3) as u64);
     signs.demand();

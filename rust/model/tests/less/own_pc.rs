@@ -78,7 +78,7 @@ fn by_hand() {
         answers += jumps(1, word_o(35, LESS, R1, R2, PC), r2, pc_second);
     }
     println!("pc by hand: {answers} answers");
-    assert_eq!(answers, 8 * 2 * 7 * 24);
+    assert_eq!(answers, 8 * 2 * 7 * 28);
 }
 
 /// From the first address to the last that there can be.
@@ -95,5 +95,5 @@ fn by_address() {
         }
     }
     println!("pc by address: {answers} answers");
-    assert_eq!(answers, 5 * 8 * 3 * 2 * 7 * 24);
+    assert_eq!(answers, 5 * 8 * 3 * 2 * 7 * 28);
 }

@@ -55,6 +55,6 @@ fn by_every_caller() {
             signs.apart()
         );
         signs.demand();
-        assert_eq!(answers, rounds(10_000) as usize * 156);
+        assert_eq!(answers, rounds(10_000) as usize * 204);
     }
 }

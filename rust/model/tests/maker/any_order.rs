@@ -3,6 +3,7 @@
 
 use super::followed::Most;
 use super::programs::{compare, demand_at_least};
+use super::proved::by_callers;
 use super::{machine, Case, FINISH, START};
 use crank_model::cover::Cover;
 use crank_model::instruction::{word_i, word_o, word_r, PC};
@@ -90,7 +91,7 @@ fn in_any_order() {
         let case = any_order(&mut rng);
         compare(&case, &Most::default(), &mut rng, &mut cover);
     }
-    cover.summary("words in any order");
+    cover.summary(&by_callers("words in any order"));
     cover.demand(&REACHED);
     demand_at_least(
         &cover,

@@ -3,10 +3,9 @@
 
 use std::collections::BTreeMap;
 
-use super::proved;
+use super::proved::{self, CHECKS};
 use super::{bez, machine, nodes_of, Case, Left, FINISH, FIQ, GATE, QIF, START};
 use crank_model::coins::{follow, next_choice, Followed};
-use crank_model::image;
 use crank_model::machine::{self as model, CF, W};
 use crank_model::rng::Rng;
 use crank_model::state::Machine;
@@ -144,12 +143,14 @@ impl Walks {
 /// Every link is paired, and only a first child waits, with the other one not.
 fn sound(left: &Left) {
     let (r, mem, table) = (left.made.record, &left.machine.mem, &left.machine.table);
-    let checks = [image::check, proved::check].map(|check| check(r, mem, table).0);
+    let checks = CHECKS.map(|(_, check, _)| check(r, mem, table).0);
     let nodes = nodes_of(left);
-    assert!(checks == [0; 2] || checks == [7; 2], "{checks:?} {nodes:?}");
-    for node in 1..=r.n {
-        let refusal = proved::check_node(r, node, mem, table);
-        assert_eq!(refusal, 0, "{node} of {nodes:?}");
+    assert!(checks == [0; 3] || checks == [7; 3], "{checks:?} {nodes:?}");
+    for (name, _, check_node) in &CHECKS[1..] {
+        for node in 1..=r.n {
+            let refusal = check_node(r, node, mem, table);
+            assert_eq!(refusal, 0, "{name}: {node} of {nodes:?}");
+        }
     }
     let w = |node: u32| nodes[node as usize - 1][W];
     for (node, words) in nodes.iter().enumerate() {

@@ -1,6 +1,6 @@
-//! The making of a qif table (document 02, #107): library and model on examples
-//! worked out by hand, at the edges of every refusal and on random programs, and
-//! walks over the tables made.
+//! The making of a qif table (document 02, #107): library, lesson bench and model
+//! on examples worked out by hand, at the edges of every refusal and on random
+//! programs, and walks over the tables made.
 
 #[path = "../proved/mod.rs"]
 mod proved;
@@ -169,14 +169,16 @@ impl Case {
 
     /// The call of every maker, which all give the same; what the model leaves.
     fn same(&self) -> Left {
-        let [model, library] = MAKERS.map(|(name, call)| self.make(name, call));
-        assert_eq!(model.made, library.made, "{self:?}");
-        assert!(
-            model.machine.table == library.machine.table,
-            "tables of {self:?}: model {:?}, library {:?}",
-            nodes_of(&model),
-            nodes_of(&library)
-        );
+        let [(_, model), others @ ..] = MAKERS.map(|(name, call)| (name, self.make(name, call)));
+        for (name, left) in &others {
+            assert_eq!(model.made, left.made, "{name}: {self:?}");
+            assert!(
+                model.machine.table == left.machine.table,
+                "tables of {self:?}: model {:?}, {name} {:?}",
+                nodes_of(&model),
+                nodes_of(left)
+            );
+        }
         model
     }
 

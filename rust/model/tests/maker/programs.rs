@@ -2,6 +2,7 @@
 //! altered and put back: as they are, and damaged.
 
 use super::followed::{all_walks, Most, Walked};
+use super::proved::by_callers;
 use super::Case;
 use crank_model::cover::Cover;
 use crank_model::forks::{program, Plan};
@@ -100,7 +101,7 @@ fn whole() {
         let refusal = compare(&case, &Most::default(), &mut rng, &mut cover);
         assert!([0, 23].contains(&refusal), "{refusal} for {case:?}");
     }
-    cover.summary("whole programs");
+    cover.summary(&by_callers("whole programs"));
     cover.demand(&NESTINGS);
     cover.demand(&[
         "23 nesting at a qif",
@@ -147,7 +148,7 @@ fn largest_memory() {
         let refusal = compare(&case, &most, &mut rng, &mut cover);
         assert!([0, 23].contains(&refusal), "{refusal} in round {round}");
     }
-    cover.summary("largest memory");
+    cover.summary(&by_callers("largest memory"));
     cover.demand(&NESTINGS);
     demand_at_least(
         &cover,
@@ -270,7 +271,7 @@ fn damaged() {
         }
         compare(&case, &most, &mut rng, &mut cover);
     }
-    cover.summary("damaged programs");
+    cover.summary(&by_callers("damaged programs"));
     cover.demand(&STOPS);
     demand_at_least(
         &cover,
@@ -301,7 +302,7 @@ fn of_the_other_tests() {
         let case = lent(machine, 20_000, &mut rng);
         compare(&case, &most, &mut rng, &mut cover);
     }
-    cover.summary("programs of the other tests");
+    cover.summary(&by_callers("programs of the other tests"));
     cover.demand(&[
         "nesting 1",
         "nesting 2",

@@ -7,6 +7,7 @@ use crank_model::machine::Record;
 use crank_model::preview::Preview;
 use crank_model::state::{Machine, Way, WAYS};
 
+use super::proved::by_callers;
 use super::{demand_cases, one_preview, refused};
 
 const R1: usize = 4;
@@ -152,7 +153,7 @@ fn edges() {
         }
     }
     at_edges(8192, 8192, 2, &mut cover);
-    cover.summary("exchanges at the edges");
+    cover.summary(&by_callers("exchanges at the edges"));
     // Nothing refuses a copy from code here.
     demand_cases(&cover, |case| {
         !case.starts_with("other") && *case != "fetr in code refused"
@@ -225,7 +226,7 @@ fn refused_exchanges() {
             refused_access(way, access, &mut cover);
         }
     }
-    cover.summary("refused exchanges");
+    cover.summary(&by_callers("refused exchanges"));
     demand_cases(&cover, |case| {
         case.starts_with("fetr") || ["ldr refused", "ldr changes a word"].contains(case)
     });

@@ -2,6 +2,7 @@
 //! turn and took it back would end this file's tests.
 
 use crank_model::machine::{Record, NODE};
+use crank_model::preview::PreviewCall;
 use crank_model::state::WAYS;
 
 use super::PREVIEWS;
@@ -36,14 +37,15 @@ fn record(pc: u32, qifv: u32, qifw: u32) -> Record {
     }
 }
 
-#[test]
-fn only_read() {
+/// Compares each preview with the model's; counts, in each direction, those of a
+/// change, of a qif or wait, and of a copy of code.
+fn counts(calls: [PreviewCall; 2]) -> [[u32; 2]; 3] {
     let (mut changes, mut walks, mut copies) = ([0; 2], [0; 2], [0; 2]);
     for pc in 0..=7 {
         for (qifv, qifw) in [(1, 0), (2, 0), (2, 1)] {
             for way in WAYS {
                 let r = record(pc, qifv, qifw);
-                let shown = PREVIEWS[way as usize](r, &MEM, &TABLE);
+                let shown = calls[way as usize](r, &MEM, &TABLE);
                 assert_eq!(shown, way.model_preview()(r, &MEM, &TABLE), "{r:?}");
                 changes[way as usize] += shown.changes;
                 let walked = [shown.record.qifv, shown.record.qifw] != [qifv, qifw];
@@ -53,7 +55,15 @@ fn only_read() {
             }
         }
     }
-    println!("only read: changes {changes:?}, qifs and waits {walks:?}, copies {copies:?}");
-    // Two exchanges and two copies of code, with either node; a qif and a wait.
-    assert_eq!((changes, walks, copies), ([4; 2], [2; 2], [4; 2]));
+    [changes, walks, copies]
+}
+
+#[test]
+fn only_read() {
+    for (name, calls) in PREVIEWS {
+        let counts = counts(calls);
+        println!("only read by {name}: changes, qifs and waits, copies {counts:?}");
+        // Two exchanges and two copies of code, with either node; a qif and a wait.
+        assert_eq!(counts, [[4; 2], [2; 2], [4; 2]], "{name}");
+    }
 }

@@ -7,6 +7,7 @@ use crank_model::rng::{rounds, Rng};
 use crank_model::state::WAYS;
 use crank_model::structured::running;
 
+use super::proved::by_callers;
 use super::{demand_all, demand_cases, level, one_preview, refused};
 
 /// Machines for one turn, half of them damaged, and noise; both previews.
@@ -24,7 +25,7 @@ fn for_one_turn() {
             one_preview(way, &machine, &mut cover);
         }
     }
-    cover.summary("previews of machines for one turn");
+    cover.summary(&by_callers("previews of machines for one turn"));
     demand_all(&cover);
 }
 
@@ -47,7 +48,7 @@ fn damaged() {
             }
         }
     }
-    cover.summary("previews of damaged machines");
+    cover.summary(&by_callers("previews of damaged machines"));
     cover.demand(&DAMAGES.map(|(name, ..)| name));
     demand_cases(&cover, |_| true);
 }
@@ -66,6 +67,6 @@ fn sizes() {
             }
         }
     }
-    cover.summary("previews with wrong sizes");
+    cover.summary(&by_callers("previews with wrong sizes"));
     demand_cases(&cover, |case| case.ends_with(" refused"));
 }

@@ -1,5 +1,5 @@
-//! Previews: library and model agree, and the turn made on a copy, by either
-//! of them, is as it was shown.
+//! Previews: library, lesson bench and model agree, and the turn made on a copy,
+//! by library or model, is as it was shown.
 
 #[path = "../proved/mod.rs"]
 mod proved;
@@ -15,17 +15,20 @@ use crank_model::cover::{access_at, word_at, Cover};
 use crank_model::instruction::Instruction::{self, *};
 use crank_model::instruction::{decode, Access};
 use crank_model::machine::Record;
-use crank_model::preview::{Preview, PreviewCall};
+use crank_model::preview::Preview;
 use crank_model::rng::Rng;
 use crank_model::state::{Machine, Turn, Way, WAYS};
+use proved::PREVIEWS;
 
-const PREVIEWS: [PreviewCall; 2] = [proved::preview_forward, proved::preview_back];
 const TURNS: [Turn; 2] = [proved::forward, proved::back];
 
-/// Compares a preview with the model's, with the turns that follow it, and
-/// with what the word at pc does. Gives also what the turn leads to.
+/// Compares a preview by every caller with the model's, with the turns that follow
+/// it, and with what the word at pc does. Gives also what the turn leads to.
 fn one_preview(way: Way, machine: &Machine, cover: &mut Cover) -> (Preview, Machine) {
-    let shown = same_preview(way, machine, PREVIEWS[way as usize]);
+    let [_, library, bench] = PREVIEWS.map(|(_, calls)| calls[way as usize]);
+    let shown = same_preview(way, machine, library);
+    let on_bench = same_preview(way, machine, bench);
+    assert_eq!(on_bench, shown, "{way:?} preview of {machine:?}");
     let after = turn_as_shown(way, machine, &shown, TURNS[way as usize]);
     turn_as_shown(way, machine, &shown, way.model());
     let change = match shown.refusal {

@@ -5,6 +5,7 @@ use crank_model::generate::for_run;
 use crank_model::rng::{rounds, Rng};
 use crank_model::state::{Machine, Way, WAYS};
 
+use super::proved::by_callers;
 use super::{demand_all, level, one_preview};
 
 /// Shows and makes one turn. Where it is accepted, the preview of its reverse
@@ -44,7 +45,7 @@ fn both_ways() {
             machine = next.unwrap_or(machine);
         }
     }
-    cover.summary("previews along runs");
+    cover.summary(&by_callers("previews along runs"));
     demand_all(&cover);
     cover.demand(&["changed word shown as it was"]);
 }

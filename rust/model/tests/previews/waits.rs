@@ -6,6 +6,7 @@ use crank_model::machine::{Record, CF, FC, NODE, W};
 use crank_model::preview::Preview;
 use crank_model::state::{Machine, Way, WAYS};
 
+use super::proved::by_callers;
 use super::{one_preview, refused};
 
 const COIN: usize = 6;
@@ -215,7 +216,7 @@ fn of_every_length() {
     for qif in qifs() {
         previews(&qif, &mut cover);
     }
-    cover.summary("waits of every length");
+    cover.summary(&by_callers("waits of every length"));
     for way in WAYS {
         demand_kinds(way, &cover);
     }

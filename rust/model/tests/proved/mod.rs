@@ -1,9 +1,11 @@
 //! The proved calls, answering in the model's types.
 #![allow(dead_code)] // each test uses some of them
 
+pub mod bench;
 mod records;
 
 use crank::calls;
+use crank_model::image::{self, CheckCall, CheckNodeCall, LoadCall, SaveCall};
 use crank_model::machine::{self, Batch, Record};
 use crank_model::maker::{self, Made, MakeCall};
 use crank_model::preview::{self, Preview, PreviewCall};
@@ -11,13 +13,23 @@ use crank_model::state::{BatchCall, Turn};
 use crank_model::wheel::{self, SampleCall, Wheeled};
 use records::{given, got};
 
-/// Single turns forward and back, by who makes them; the last as the previews
-/// show them.
-pub const TURNS: [(&str, [Turn; 2]); 4] = [
+/// Single turns forward and back, by who makes them; the last two as the
+/// previews show them.
+pub const TURNS: [(&str, [Turn; 2]); 5] = [
     ("model", [machine::forward, machine::back]),
     ("library", [forward, back]),
     ("bench", [bench::forward, bench::back]),
+    AS_SHOWN[0],
+    AS_SHOWN[1],
+];
+
+/// Turns made as the previews show them.
+pub const AS_SHOWN: [(&str, [Turn; 2]); 2] = [
     ("previews", [forward_as_shown, back_as_shown]),
+    (
+        "bench previews",
+        [bench::forward_as_shown, bench::back_as_shown],
+    ),
 ];
 
 /// Batches, likewise.
@@ -35,13 +47,38 @@ pub const SAMPLES: [(&str, SampleCall); 3] = [
 ];
 
 /// Previews, forward and back.
-pub const PREVIEWS: [(&str, [PreviewCall; 2]); 2] = [
+pub const PREVIEWS: [(&str, [PreviewCall; 2]); 3] = [
     ("model", [preview::forward, preview::back]),
     ("library", [preview_forward, preview_back]),
+    ("bench", [bench::preview_forward, bench::preview_back]),
+];
+
+/// Loads of an image, and saves.
+pub const IMAGES: [(&str, LoadCall, SaveCall); 3] = [
+    ("model", image::load, image::save),
+    ("library", load, save),
+    ("bench", bench::load, bench::save),
+];
+
+/// The whole check, and that of one node.
+pub const CHECKS: [(&str, CheckCall, CheckNodeCall); 3] = [
+    ("model", image::check, image::check_node),
+    ("library", check, check_node),
+    ("bench", bench::check, bench::check_node),
 ];
 
 /// The makers of a qif table.
-pub const MAKERS: [(&str, MakeCall); 2] = [("model", maker::make_table), ("library", make_table)];
+pub const MAKERS: [(&str, MakeCall); 3] = [
+    ("model", maker::make_table),
+    ("library", make_table),
+    ("bench", bench::make_table),
+];
+
+/// The title of a summary, with the callers that are compared with the model.
+pub fn by_callers(title: &str) -> String {
+    let names: Vec<&str> = MAKERS[1..].iter().map(|(name, _)| *name).collect();
+    format!("{title}, by {}", names.join(" and "))
+}
 
 pub fn is_instruction(word: u32) -> bool {
     calls::is_instruction(word)
@@ -147,94 +184,5 @@ pub fn make_table(
         refusal: made.refusal,
         cycles: made.cycles,
         record: got(made.state),
-    }
-}
-
-/// The lesson bench.
-pub struct Bench(calls::Bench);
-
-impl Bench {
-    pub fn new(r: Record) -> Bench {
-        Bench(calls::Bench { state: given(r) })
-    }
-
-    pub fn record(&self) -> Record {
-        got(self.0.state)
-    }
-
-    pub fn forward(&mut self, mem: &mut [u32], table: &[u32]) -> u32 {
-        self.0.forward(mem, table)
-    }
-
-    pub fn back(&mut self, mem: &mut [u32], table: &[u32]) -> u32 {
-        self.0.back(mem, table)
-    }
-
-    /// The answer, with the record that the bench then has.
-    fn batch(&self, made: calls::Cranked) -> Batch {
-        Batch {
-            turns: made.turns,
-            refusal: made.refusal,
-            record: self.record(),
-        }
-    }
-
-    pub fn forward_batch(&mut self, n: u32, mem: &mut [u32], table: &[u32]) -> Batch {
-        let made = self.0.forward_batch(n, mem, table);
-        self.batch(made)
-    }
-
-    pub fn back_batch(&mut self, n: u32, mem: &mut [u32], table: &[u32]) -> Batch {
-        let made = self.0.back_batch(n, mem, table);
-        self.batch(made)
-    }
-
-    /// The answer, likewise.
-    pub fn samples(&mut self, before: u8, list: &[u8], mem: &mut [u32], table: &[u32]) -> Wheeled {
-        let sampled = self.0.samples(before, list, mem, table);
-        Wheeled {
-            forward: sampled.forward,
-            back: sampled.back,
-            refused: sampled.refused,
-            last: sampled.last,
-            refusal: sampled.refusal,
-            record: self.record(),
-        }
-    }
-}
-
-/// The bench calls with the record copied in and out, as those by value are
-/// called; a preview takes the bench's record by value.
-pub mod bench {
-    use super::{Batch, Bench, Preview, Record, Wheeled};
-
-    pub fn forward(r: Record, mem: &mut [u32], table: &[u32]) -> (u32, Record) {
-        let mut bench = Bench::new(r);
-        (bench.forward(mem, table), bench.record())
-    }
-
-    pub fn back(r: Record, mem: &mut [u32], table: &[u32]) -> (u32, Record) {
-        let mut bench = Bench::new(r);
-        (bench.back(mem, table), bench.record())
-    }
-
-    pub fn forward_batch(r: Record, n: u32, mem: &mut [u32], table: &[u32]) -> Batch {
-        Bench::new(r).forward_batch(n, mem, table)
-    }
-
-    pub fn back_batch(r: Record, n: u32, mem: &mut [u32], table: &[u32]) -> Batch {
-        Bench::new(r).back_batch(n, mem, table)
-    }
-
-    pub fn samples(r: Record, given: u8, list: &[u8], mem: &mut [u32], table: &[u32]) -> Wheeled {
-        Bench::new(r).samples(given, list, mem, table)
-    }
-
-    pub fn preview_forward(r: Record, mem: &[u32], table: &[u32]) -> Preview {
-        super::preview_forward(Bench::new(r).record(), mem, table)
-    }
-
-    pub fn preview_back(r: Record, mem: &[u32], table: &[u32]) -> Preview {
-        super::preview_back(Bench::new(r).record(), mem, table)
     }
 }

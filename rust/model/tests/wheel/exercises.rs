@@ -57,7 +57,7 @@ fn to_the_finish_and_back() {
 /// The samples in calls of `size` each on one bench, each given the last
 /// sample of the call before: the answers add up to that of one call.
 fn in_parts(start: &Machine, given: u8, samples: &[u8], size: usize) -> Wheeled {
-    let mut bench = proved::Bench::new(start.record);
+    let mut bench = proved::bench::Bench::new(start.record);
     let mut machine = start.clone();
     let mut sum: Option<Wheeled> = None;
     for part in samples.chunks(size) {
