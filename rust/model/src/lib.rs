@@ -30,4 +30,6 @@ pub mod generate;
 pub mod maker;
 pub mod walks;
 
+pub mod asides;
+
 pub mod lists;

@@ -1,5 +1,8 @@
 //! Lists of calls: Left makes any calls, Right the single turns that remain.
 
+use std::hint::black_box;
+
+use crate::asides::{self, random_aside, Aside, Told};
 use crate::compare::{adds_up, batch_size, follow, one_way, turn_by_turn};
 use crate::cover::Cover;
 use crate::machine::{sizes_fit, Batch, NODE};
@@ -14,16 +17,17 @@ pub enum Call {
     Single(Way),
     Batch(Way, u32),
     Samples(u8, Vec<u8>),
-    Preview(Way),
+    Aside(Aside),
 }
 
-/// What a call of a list gave: the accepted turns, none for a preview, and the
-/// refusal.
-#[derive(Clone, Copy, Debug, PartialEq, Eq)]
+/// What a call of a list gave: the accepted turns and the refusal; and if it is
+/// one beside the turns, all.
+#[derive(Clone, Debug, PartialEq, Eq)]
 pub struct Gave {
     pub forward: u64,
     pub back: u64,
     pub refusal: u32,
+    pub told: Option<Told>,
 }
 
 impl Gave {
@@ -32,13 +36,28 @@ impl Gave {
         Gave::one_way(way, batch.turns, batch.refusal)
     }
 
-    /// What a single turn, a batch or a preview gave.
+    /// What a single turn or a batch gave.
     pub fn one_way(way: Way, turns: u32, refusal: u32) -> Gave {
-        let [forward, back] = one_way(way, turns);
+        Gave::turned(one_way(way, turns), refusal)
+    }
+
+    /// What samples gave: the accepted turns forward and back.
+    pub fn turned([forward, back]: [u64; 2], refusal: u32) -> Gave {
         Gave {
             forward,
             back,
             refusal,
+            told: None,
+        }
+    }
+
+    /// What a call beside the turns gave.
+    pub fn told(told: Told) -> Gave {
+        Gave {
+            forward: 0,
+            back: 0,
+            refusal: told.refusal(),
+            told: Some(told),
         }
     }
 }
@@ -49,10 +68,10 @@ fn random_call(rng: &mut Rng, machine: &Machine) -> Call {
     } else {
         Way::Back
     };
-    match rng.below(5) {
+    match rng.below(6) {
         0 => Call::Single(way),
-        1 => Call::Preview(way),
-        2 => {
+        1 | 2 => Call::Aside(random_aside(rng, machine)),
+        3 => {
             let (given, samples) = random_samples(rng, 200);
             Call::Samples(given, samples)
         }
@@ -61,7 +80,7 @@ fn random_call(rng: &mut Rng, machine: &Machine) -> Call {
 }
 
 /// Makes the turns of a call with the model, and checks what the call gave.
-fn follow_call(call: &Call, model: &mut Machine, gave: Gave, cover: &mut Cover) {
+fn follow_call(call: &Call, model: &mut Machine, gave: &Gave, cover: &mut Cover) {
     // A single turn gives what a batch of 1 gives.
     let (way, n) = match call {
         Call::Single(way) => (*way, 1),
@@ -69,23 +88,19 @@ fn follow_call(call: &Call, model: &mut Machine, gave: Gave, cover: &mut Cover) 
         Call::Samples(given, samples) => {
             return follow_samples(*given, samples, model, gave, cover)
         }
-        Call::Preview(way) => return follow_preview(*way, model, gave, cover),
+        Call::Aside(aside) => return follow_aside(aside, model, gave, cover),
     };
     let batch = model.clone().batch(n, way.model_batch());
-    assert_eq!(gave, Gave::batch(way, batch), "{call:?}: {model:?}");
+    assert_eq!(*gave, Gave::batch(way, batch), "{call:?}: {model:?}");
     follow(way, model, n, batch, cover);
 }
 
-fn follow_samples(given: u8, samples: &[u8], model: &mut Machine, gave: Gave, cover: &mut Cover) {
+fn follow_samples(given: u8, samples: &[u8], model: &mut Machine, gave: &Gave, cover: &mut Cover) {
     let expected = model.clone().samples(given, samples, wheel::samples);
     let turns = WAYS.map(|way| way.model());
     let [forward, back, refused] = turn_by_turn(model, given, samples, turns, cover);
-    let counted = Gave {
-        forward,
-        back,
-        refusal: expected.refusal,
-    };
-    assert_eq!(gave, counted, "{samples:?} after {given}: {model:?}");
+    let counted = Gave::turned([forward, back], expected.refusal);
+    assert_eq!(*gave, counted, "{samples:?} after {given}: {model:?}");
     if forward > 0 && back > 0 {
         cover.count("samples both ways");
     }
@@ -94,14 +109,15 @@ fn follow_samples(given: u8, samples: &[u8], model: &mut Machine, gave: Gave, co
     }
 }
 
-/// A preview makes no turn; the model stays where it is.
-fn follow_preview(way: Way, model: &Machine, gave: Gave, cover: &mut Cover) {
-    let shown = model.preview(way.model_preview());
-    let expected = Gave::one_way(way, 0, shown.refusal);
-    assert_eq!(gave, expected, "{way:?} preview: {model:?}");
-    if shown.changes > 0 {
+/// Makes a call beside the turns with the model, and checks all that it gave. The
+/// model stays where it is but for an accepted load and a make.
+pub fn follow_aside(aside: &Aside, model: &mut Machine, gave: &Gave, cover: &mut Cover) {
+    let told = aside.by_value(model, &asides::MODEL);
+    cover.count(&told.name());
+    if matches!(&told, Told::Preview(shown) if shown.changes > 0) {
         cover.count("preview of a changed word");
     }
+    assert_eq!(*gave, Gave::told(told), "{aside:?}: {model:?}");
 }
 
 /// Makes a random list of calls with `left`, following each with the model.
@@ -117,9 +133,12 @@ pub fn run_left(
     for _ in 0..rng.below(13) {
         let call = random_call(rng, machine);
         let gave = left(machine, &call);
-        follow_call(&call, &mut model, gave, cover);
-        assert_eq!(*machine, model, "{call:?} gave {gave:?}");
-        count_call(cover, &call, gave);
+        let before = matches!(call, Call::Aside(_)).then(|| model.clone());
+        follow_call(&call, &mut model, &gave, cover);
+        // The compiler may else take words lent for reading as unchanged.
+        assert_eq!(*black_box(&*machine), model, "{call:?} gave {gave:?}");
+        assert!(before.is_none_or(|before| model == before), "{call:?}");
+        count_call(cover, &call, &gave);
         list.push((call, gave));
     }
     if list.is_empty() {
@@ -146,23 +165,23 @@ pub fn position_adds_up(list: &[(Call, Gave)], start: &Machine, end: &Machine) {
     adds_up(&start.record, &end.record, accepted(list));
 }
 
-/// Makes a list again, without its previews: the other calls give the same,
-/// and their end is the same.
-pub fn without_previews(
+/// Makes a list again, without the calls beside the turns: the others give the
+/// same, and their end is the same.
+pub fn without_asides(
     list: &[(Call, Gave)],
     mut machine: Machine,
     end: &Machine,
     mut left: impl FnMut(&mut Machine, &Call) -> Gave,
 ) {
     for (call, gave) in list {
-        if !matches!(call, Call::Preview(_)) {
+        if !matches!(call, Call::Aside(_)) {
             assert_eq!(left(&mut machine, call), *gave, "{call:?} of {list:?}");
         }
     }
-    assert_eq!(machine, *end, "without the previews of {list:?}");
+    assert_eq!(machine, *end, "without the calls beside in {list:?}");
 }
 
-fn count_call(cover: &mut Cover, call: &Call, gave: Gave) {
+fn count_call(cover: &mut Cover, call: &Call, gave: &Gave) {
     match call {
         Call::Batch(_, 0) => cover.count("batch of 0"),
         Call::Batch(_, u32::MAX) => cover.count("batch of 4294967295"),
@@ -170,9 +189,7 @@ fn count_call(cover: &mut Cover, call: &Call, gave: Gave) {
         Call::Single(_) => cover.count("single"),
         Call::Samples(_, list) if list.is_empty() => cover.count("no samples"),
         Call::Samples(..) => cover.count("samples"),
-        Call::Preview(_) if gave.refusal == 21 => return cover.count("preview refused by 21"),
-        Call::Preview(_) if gave.refusal != 0 => return cover.count("refused preview"),
-        Call::Preview(_) => cover.count("preview"),
+        Call::Aside(_) => return,
     }
     match gave.refusal {
         0 => {}
@@ -219,8 +236,8 @@ pub fn count_net(cover: &mut Cover, net: i64) {
     });
 }
 
-/// What every list test must have met.
-pub const LIST_CASES: [&str; 21] = [
+/// What every list test must have met, beside the asides.
+pub const LIST_CASES: [&str; 18] = [
     "empty list",
     "batch of 0",
     "batch of 4294967295",
@@ -235,10 +252,7 @@ pub const LIST_CASES: [&str; 21] = [
     "accepted after a 21",
     "samples refused by 19",
     "samples refused by 20",
-    "preview",
     "preview of a changed word",
-    "refused preview",
-    "preview refused by 21",
     "net 0",
     "net forward",
     "net back",
