@@ -305,8 +305,8 @@ Checked bench_check(const Bench *b, const uint32_t *mem, size_t mem_len,
 uint32_t bench_check_node(const Bench *b, uint32_t node, const uint32_t *mem, size_t mem_len,
                           const uint32_t *table, size_t table_len);
 
-/* Makes the qif table of the code, by the rules of crank_make_table. Accepted: *b has the new n and
- * qifv 1. Refused: *b is as it was. */
+/* Makes the qif table of the code, by the rules of crank_make_table, also for mem, table and scratch.
+ * Accepted: *b has the new n and qifv 1. Refused: *b is as it was. */
 Tabled bench_make_table(Bench *b, uint32_t limit, uint32_t *mem, size_t mem_len,
                         uint32_t *table, size_t table_len, uint32_t *scratch, size_t scratch_len);
 

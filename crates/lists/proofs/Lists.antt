@@ -69,7 +69,7 @@ go-on t (single d y z n p) = turn-on t p
 go-on t (batch d n y z k w p) = R.then-run Machine Accepts next Bounded turn-home d k t (p .bounds) (batch-run p)
 go-on {x = x} t (samples given l y z c p) =
     by-turns (λ f b z. Tour f b x z) (λ d f b y z n u h. turn-on u h) t (call-turns given l y p)
-go-on {x = x} {f = f} {b = b} t (reads y h) = no-turn t
+go-on t (reads y h) = no-turn t
 go-on {x = x} {f = f} {b = b} t (refusedLoad file y z n p h) =
     subst (Tour (0 + f) (0 + b) x) (sym (ap (λ (u : Machine). machineOf (y .state) (u .memory) (u .table)) (refused-loads file (y .memory) (y .table) n z p h))) (no-turn t)
 

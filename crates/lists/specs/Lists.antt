@@ -20,7 +20,7 @@ use Rattle.image.specs.Save.{SavePromise}
 
 -- ---- Left: a list of calls
 
--- A call from x that turns nothing: the record goes by value, memory and table are lent for reading only.
+-- A call that only reads the machine x: its record goes by value or is lent for reading, and so are memory and table.
 pub data Reading (x : Machine) : Type 0 where
   preview : (d : Direction) (a : Preview) → PreviewPromise d x a → Reading x
   save : (out out′ : List ℕ) (n : ℕ) → SavePromise x out n out′ → Reading x
@@ -29,8 +29,8 @@ pub data Reading (x : Machine) : Type 0 where
 
 -- One call from x: its accepted turns forward and back, and the machine that it leaves, with what it promises. A single turn
 -- counts its acceptance, a batch counts its k, this way alone; samples count what their answer says, both ways. A call that turns
--- nothing counts nothing, and leaves the machine. So does a refused load: its caller keeps the record, with the lent words as it
--- left them.
+-- nothing counts nothing, and leaves the machine. A refused load counts nothing either: its caller keeps the record, with the
+-- lent words as the load left them.
 pub data Call : Machine → ℕ → ℕ → Machine → Type 0 where
   single : (d : Direction) (x y : Machine) (n : ℕ) → TurnPromise d x n y → Call x (byWay d (accepted n) 0) (byWay d 0 (accepted n)) y
   batch : (d : Direction) (n : ℕ) (x y : Machine) (k w : ℕ) → BatchPromise d n x k w y → Call x (byWay d k 0) (byWay d 0 k) y

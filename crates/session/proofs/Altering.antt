@@ -1,4 +1,4 @@
--- The calls that alter the bench, which is lent to them by `&mut`. They store the bench that the function by value answers, and answer what comes with
+-- The calls that alter the bench, which is lent to them by `&mut`. They store the bench that the function inside answers, and answer what comes with
 -- it. Their contract says what the function's does, of the bench behind the reference, and of the call's answer together with the bench at exit.
 -- Assumes nothing.
 use mathlib.Core.Path.{_≡_, refl, subst, sym}
@@ -43,7 +43,7 @@ use Rattle.session.proofs.Forms.{Answer, struct-answer, bench-val, aske
 use Rattle.session.proofs.Walk as walk
 use Rattle.session.proofs.Walk.{altered, address, ended, asks, Contracted, Telling, Ends, Remains}
 
--- what the function by value answers: a struct of the bench and of what the call answers, X
+-- what the function inside answers: a struct of the bench and of what the call answers, X
 pub record After (X : Answer) : Type 2 where
   pub type : Declared
   pub laws : LL.Laws type

@@ -1,4 +1,4 @@
--- What the calls answer, and what the functions by value do: with the bench, where the call alters it. Assumes nothing.
+-- What the calls answer, and what the functions inside do: with the bench, where the call alters it. Assumes nothing.
 use mathlib.Core.Path.{refl}
 use mir.Syntax.{w32, tyInt}
 use mir.Val.{vint}

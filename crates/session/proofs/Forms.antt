@@ -1,4 +1,4 @@
--- The forms of bench calls: what each is passed after the bench, and hands on. The call of the function by value, which takes what
+-- The forms of bench calls: what each is passed after the bench, and hands on. The call of the function inside, which takes what
 -- it is asked with, made of the bench, and what is handed on. Assumes nothing.
 use Prim.Native.Nat.{ℕ, suc}
 use mathlib.Core.List.{[], _∷_, List}
@@ -31,12 +31,12 @@ use Rattle.session.proofs.Bench as B
 use Rattle.session.proofs.Bench.Laws as B′
 use Rattle.session.proofs.inside.Asked as Q
 use Rattle.session.proofs.inside.Asked.Laws as Q′
-use Rattle.session.proofs.Params.{Param, number, read, lent, lifetimes, slots, Handed, Lasts, Left, values, passed}
+use Rattle.session.proofs.Params.{Param, number, read, lent, lifetimes, slots, Handed, Lasts, AtEnd, values, passed}
 
 abbrev pub bench-val : Bench → Val
 bench-val h = LL.val B.the-type B′.the-laws h
 
--- what a function by value is asked with, for the bench h
+-- what a function inside is asked with, for the bench h
 abbrev pub askedOf : Bench → Asked
 askedOf h = record { bench = h }
 
@@ -81,7 +81,7 @@ module _ (n : ℕ) (κs : Lfts n) where
   entry (read w ∷ ps) j κ z = (now (z .0), entry ps (suc j) (λ κs. κ κs .1) (z .1))
   entry (lent w ∷ ps) j κ z = (now (z .0), entry ps (suc j) (λ κs. κ κs .1) (z .1))
 
-  abbrev pub exit : (ps : List Param) (j : ℕ) (κ : Lfts n → Lfts (lifetimes ps)) → Left n κs ps j κ → Values ps
+  abbrev pub exit : (ps : List Param) (j : ℕ) (κ : Lfts n → Lfts (lifetimes ps)) → AtEnd n κs ps j κ → Values ps
   exit [] j κ e = tt
   exit (number w ∷ ps) j κ e = (e .0, exit ps j κ (e .1))
   exit (read w ∷ ps) j κ e = (now (e .0), exit ps (suc j) (λ κs. κ κs .1) (e .1))
@@ -91,7 +91,7 @@ module _ (n : ℕ) (κs : Lfts n) where
 abbrev pub Says : List Param → Type 0 → Type 1
 Says ps X = Values ps → Values ps → Asked → X → Type 0
 
--- ---- a call, of m lifetimes with those of what is handed on, which are after k; and the function by value
+-- ---- a call, of m lifetimes with those of what is handed on, which are after k; and the function inside
 
 module _ (ps : List Param) where
   abbrev pub shape : (m k : ℕ) → (Lfts m → Lfts (lifetimes ps)) → Slot m → RattleType → Ended
@@ -150,7 +150,7 @@ module _ (ps : List Param) where
           later (some (λ (t : R .Denot). (tokens ⊛ ‵ (R .own t (v ∷ [])))
           ⊛ some (λ (ws : Unit {0} × Last κs z). ‵ (fsep ftrue (lastsOf κs further (all yes further) z (ws .1))) ⊛ raw (fact 𝓤 (Holds Said κs s z t (ws .1))))))
 
-  -- the function by value, at what a bench call hands it
+  -- the function inside, at what a bench call hands it
   abbrev pub Called : Type 2
   Called = (M : Type 1) (𝓤 : URA M) (H : Heap 𝓤) (A : Atoms 𝓤) (R : RattleType) (Said : Says ps (R .Denot)) (κs : CallLfts) (qs : Shares (suc (lifetimes ps))) (s : Asked) (z : Further κs) (run : Fun 𝓤)
       → Triple 𝓤 run (Callee 𝓤 R Said H A)
@@ -162,15 +162,15 @@ pub record Form : Type 2 where
   pub params : List Param
   pub called : Called params
 
--- the memory, and the table
+-- the memory to write, and the table
 abbrev pub turn : Form
 turn = record { params = lent w32 ∷ read w32 ∷ []; called = λ M 𝓤 H A R Said κs qs s z run met. met ((κs .1, qs .1, tt, (s, z), (asked-val s ∷ [], _)), tt) }
 
--- n, the memory, and the table
+-- n, the memory to write, and the table
 abbrev pub batch : Form
 batch = record { params = number w32 ∷ lent w32 ∷ read w32 ∷ []; called = λ M 𝓤 H A R Said κs qs s z run met. met ((κs .1, qs .1, tt, (s, z), (asked-val s ∷ [], _)), tt) }
 
--- the given sample, the samples, the memory, and the table
+-- the given sample, the samples, the memory to write, and the table
 abbrev pub samples : Form
 samples = record { params = number w8 ∷ read w8 ∷ lent w32 ∷ read w32 ∷ []; called = λ M 𝓤 H A R Said κs qs s z run met. met ((κs .1, qs .1, tt, (s, z), (asked-val s ∷ [], _)), tt) }
 
@@ -182,14 +182,14 @@ load = record { params = read w8 ∷ lent w32 ∷ lent w32 ∷ []; called = λ M
 abbrev pub make : Form
 make = record { params = number w32 ∷ lent w32 ∷ lent w32 ∷ lent w32 ∷ []; called = λ M 𝓤 H A R Said κs qs s z run met. met ((κs .1, qs .1, tt, (s, z), (asked-val s ∷ [], _)), tt) }
 
--- the memory, and the table
-abbrev pub show : Form
-show = record { params = read w32 ∷ read w32 ∷ []; called = λ M 𝓤 H A R Said κs qs s z run met. met ((κs .1, qs .1, tt, (s, z), (asked-val s ∷ [], _)), tt) }
+-- the memory and the table, to read
+abbrev pub reading : Form
+reading = record { params = read w32 ∷ read w32 ∷ []; called = λ M 𝓤 H A R Said κs qs s z run met. met ((κs .1, qs .1, tt, (s, z), (asked-val s ∷ [], _)), tt) }
 
--- a node, the memory, and the table
-abbrev pub node : Form
-node = record { params = number w32 ∷ read w32 ∷ read w32 ∷ []; called = λ M 𝓤 H A R Said κs qs s z run met. met ((κs .1, qs .1, tt, (s, z), (asked-val s ∷ [], _)), tt) }
+-- a node, and the memory and the table to read
+abbrev pub reading-node : Form
+reading-node = record { params = number w32 ∷ read w32 ∷ read w32 ∷ []; called = λ M 𝓤 H A R Said κs qs s z run met. met ((κs .1, qs .1, tt, (s, z), (asked-val s ∷ [], _)), tt) }
 
--- the memory, the table, and the output
+-- the memory and the table to read, and the output
 abbrev pub save : Form
 save = record { params = read w32 ∷ read w32 ∷ lent w8 ∷ []; called = λ M 𝓤 H A R Said κs qs s z run met. met ((κs .1, qs .1, tt, (s, z), (asked-val s ∷ [], _)), tt) }

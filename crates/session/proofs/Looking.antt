@@ -1,4 +1,4 @@
--- The calls that only look at the bench, which is lent to them by `&`. They answer as the function by value does, and their contract says the same,
+-- The calls that only look at the bench, which is lent to them by `&`. They answer as the function inside does, and their contract says the same,
 -- of the bench behind the reference. Assumes nothing.
 use mathlib.Core.Path.{refl}
 use Prim.Native.Nat.{ℕ, suc}

@@ -83,8 +83,8 @@ module _ (n : ℕ) where
     abbrev pub Lasts : (ps : List Param) (j : ℕ) (κ : Lfts n → Lfts (lifetimes ps)) → Handed ps j κ → Type 0
     Lasts ps j κ z = Fins κs (slots ps j κ) (all yes (slots ps j κ)) z
 
-    abbrev pub Left : (ps : List Param) (j : ℕ) (κ : Lfts n → Lfts (lifetimes ps)) → Type 0
-    Left ps j κ = Outs κs (slots ps j κ) (all yes (slots ps j κ))
+    abbrev pub AtEnd : (ps : List Param) (j : ℕ) (κ : Lfts n → Lfts (lifetimes ps)) → Type 0
+    AtEnd ps j κ = Outs κs (slots ps j κ) (all yes (slots ps j κ))
 
     -- their machine values
     abbrev pub spells : (ps : List Param) (j : ℕ) (κ : Lfts n → Lfts (lifetimes ps)) → Spells (typesAt (slots ps j κ) κs)
@@ -117,22 +117,24 @@ abbrev pub locals : List Param → ℕ → List Local → List Local
 locals [] j rest = rest
 locals (p ∷ ps) j rest = local (ty p j) valueLocal ∷ locals ps (lives p j) rest
 
--- before the locals E; the number of the local after theirs, which begin at i; and as room, as what ends them, and once stored
+-- those of the function, with theirs before the locals E
 abbrev pub before : (ps : List Param) → ℕ → Locals ps → Env → Env
 before [] j ls E = E
 before (p ∷ ps) j ls E = (ty p j, ls .0) ∷ before ps (lives p j) (ls .1) E
 
+-- the number of the local after theirs, which begin at i
 abbrev pub past : List Param → ℕ → ℕ
 past [] i = i
 past (p ∷ ps) i = past ps (suc i)
 
+-- room for them, what they die by, and the cells once they are stored
 abbrev pub rooms : (ps : List Param) → ℕ → Locals ps → Fml
 rooms [] j ls = ftrue
 rooms (p ∷ ps) j ls = fsep (froom (ty p j) (ls .0) 0) (rooms ps (lives p j) (ls .1))
 
-abbrev pub ends : (ps : List Param) → ℕ → Locals ps → Fml
-ends [] j ls = ftrue
-ends (p ∷ ps) j ls = fsep (fdies (ty p j) (ls .0)) (ends ps (lives p j) (ls .1))
+abbrev pub dies : (ps : List Param) → ℕ → Locals ps → Fml
+dies [] j ls = ftrue
+dies (p ∷ ps) j ls = fsep (fdies (ty p j) (ls .0)) (dies ps (lives p j) (ls .1))
 
 abbrev pub cells : (n : ℕ) (κs : Lfts n) (ps : List Param) (j : ℕ) (κ : Lfts n → Lfts (lifetimes ps)) → Locals ps → Handed n κs ps j κ → Fml
 cells n κs [] j κ ls z = ftrue
@@ -140,8 +142,8 @@ cells n κs (p ∷ ps) j κ ls z = fsep (fat fullShare (ty p j) (ls .0) 0 (val p
 
 -- ---- a slice that is lent again: its pointer, and it, in two further locals
 
-abbrev pub pointer : Width → Ty
-pointer w = tyRef erased mut (tyInt w)
+abbrev pub lent-pointer : Width → Ty
+lent-pointer w = tyRef erased mut (tyInt w)
 
 abbrev pub Again : List Param → Type 0
 Again [] = Unit {0}
@@ -153,33 +155,33 @@ abbrev pub locals-again : List Param → List Local
 locals-again [] = []
 locals-again (number w ∷ ps) = locals-again ps
 locals-again (read w ∷ ps) = locals-again ps
-locals-again (lent w ∷ ps) = local (pointer w) valueLocal ∷ local (sliceTy (pointer w)) valueLocal ∷ locals-again ps
+locals-again (lent w ∷ ps) = local (lent-pointer w) valueLocal ∷ local (sliceTy (lent-pointer w)) valueLocal ∷ locals-again ps
 
 abbrev pub env-again : (ps : List Param) → Again ps → Env
 env-again [] ts = []
 env-again (number w ∷ ps) ts = env-again ps ts
 env-again (read w ∷ ps) ts = env-again ps ts
-env-again (lent w ∷ ps) ts = (pointer w, ts .0) ∷ (sliceTy (pointer w), ts .1) ∷ env-again ps (ts .2)
+env-again (lent w ∷ ps) ts = (lent-pointer w, ts .0) ∷ (sliceTy (lent-pointer w), ts .1) ∷ env-again ps (ts .2)
 
 abbrev pub rooms-again : (ps : List Param) → Again ps → Fml
 rooms-again [] ts = ftrue
 rooms-again (number w ∷ ps) ts = rooms-again ps ts
 rooms-again (read w ∷ ps) ts = rooms-again ps ts
-rooms-again (lent w ∷ ps) ts = fsep (froom (pointer w) (ts .0) 0) (fsep (froom (sliceTy (pointer w)) (ts .1) 0) (rooms-again ps (ts .2)))
+rooms-again (lent w ∷ ps) ts = fsep (froom (lent-pointer w) (ts .0) 0) (fsep (froom (sliceTy (lent-pointer w)) (ts .1) 0) (rooms-again ps (ts .2)))
 
-abbrev pub ends-again : (ps : List Param) → Again ps → Fml
-ends-again [] ts = ftrue
-ends-again (number w ∷ ps) ts = ends-again ps ts
-ends-again (read w ∷ ps) ts = ends-again ps ts
-ends-again (lent w ∷ ps) ts = fsep (fdies (pointer w) (ts .0)) (fsep (fdies (sliceTy (pointer w)) (ts .1)) (ends-again ps (ts .2)))
+abbrev pub dies-again : (ps : List Param) → Again ps → Fml
+dies-again [] ts = ftrue
+dies-again (number w ∷ ps) ts = dies-again ps ts
+dies-again (read w ∷ ps) ts = dies-again ps ts
+dies-again (lent w ∷ ps) ts = fsep (fdies (lent-pointer w) (ts .0)) (fsep (fdies (sliceTy (lent-pointer w)) (ts .1)) (dies-again ps (ts .2)))
 
 abbrev pub cells-again : (n : ℕ) (κs : Lfts n) (ps : List Param) (j : ℕ) (κ : Lfts n → Lfts (lifetimes ps)) → Again ps → Handed n κs ps j κ → Fml
 cells-again n κs [] j κ ts z = ftrue
 cells-again n κs (number w ∷ ps) j κ ts z = cells-again n κs ps j κ ts (z .1)
 cells-again n κs (read w ∷ ps) j κ ts z = cells-again n κs ps (suc j) (λ κs. κ κs .1) ts (z .1)
 cells-again n κs (lent w ∷ ps) j κ ts z =
-    fsep (fat fullShare (pointer w) (ts .0) 0 (vptr (ptr (z .0) .0) (ptr (z .0) .1)))
-    (fsep (fat fullShare (sliceTy (pointer w)) (ts .1) 0 (sliceVal (ptr (z .0)) (length (now (z .0))))) (cells-again n κs ps (suc j) (λ κs. κ κs .1) (ts .2) (z .1)))
+    fsep (fat fullShare (lent-pointer w) (ts .0) 0 (vptr (ptr (z .0) .0) (ptr (z .0) .1)))
+    (fsep (fat fullShare (sliceTy (lent-pointer w)) (ts .1) 0 (sliceVal (ptr (z .0)) (length (now (z .0))))) (cells-again n κs ps (suc j) (λ κs. κ κs .1) (ts .2) (z .1)))
 
 -- ---- the code: each is lent again, where their locals begin at i and the further ones at t, and they are a callee's operands
 

@@ -21,7 +21,7 @@ use denote.Plain.{UInt, uint-lawful}
 use denote.Slice.{mut-slice-lawful, shr-slice-lawful}
 use denote.Steps.{nothing}
 use Rattle.session.proofs.Params.{Param, number, read, lent, lives, lifetimes, life, later, row, ty, val, Handed, passed, Fit}
-use Rattle.session.proofs.Params.{Env, Locals, locals, before, past, rooms, ends, cells, Again, locals-again, env-again, rooms-again, ends-again, cells-again, relend, operands}
+use Rattle.session.proofs.Params.{Env, Locals, locals, before, past, rooms, dies, cells, Again, locals-again, env-again, rooms-again, dies-again, cells-again, relend, operands}
 
 -- ---- places: from the local i on, the locals E are F
 
@@ -62,7 +62,7 @@ typed {𝓤 = 𝓤} {H = H} {A = A} W (lent w) j κ x is = mut-slice-lawful 𝓤
 
 module _ {M : Type 1} {𝓤 : URA M} {H : Heap 𝓤} {A : Atoms 𝓤} {K : Type 0} {W : Given 𝓤 H A} where
   pub alloc-params : K → (ps : List Param) (j : ℕ) {Γ : List (Item 𝓤)} {more : List Local} {Kt : Env → Goal 𝓤 H}
-      → ((ls : Locals ps) → Seq K W (‵ (rooms ps j ls) ∷ ‵ (ends ps j ls) ∷ Γ) (allocs more (λ E. Kt (before ps j ls E))))
+      → ((ls : Locals ps) → Seq K W (‵ (rooms ps j ls) ∷ ‵ (dies ps j ls) ∷ Γ) (allocs more (λ E. Kt (before ps j ls E))))
       → Seq K W Γ (allocs (locals ps j more) Kt)
   alloc-params k [] j s = nothing k $ nothing k $ s tt
   alloc-params k (p ∷ ps) j s =
@@ -76,7 +76,7 @@ module _ {M : Type 1} {𝓤 : URA M} {H : Heap 𝓤} {A : Atoms 𝓤} {K : Type 
       pass-params k n κs ps (lives p j) (λ κs. later p (lifetimes ps) (κ κs)) (ls .1) (z .1) (fit .1) $ move k (1 ∷ []) $ fjoin k $ s)
 
   pub free-params : K → (n : ℕ) (κs : Lfts n) (ps : List Param) (j : ℕ) (κ : Lfts n → Lfts (lifetimes ps)) (ls : Locals ps) (z : Handed n κs ps j κ) {E : Env} {G : Goal 𝓤 H} {Γ : List (Item 𝓤)}
-      → Step K W Γ (frees E G) (‵ (cells n κs ps j κ ls z) ∷ ‵ (ends ps j ls) ∷ Γ) (frees (before ps j ls E) G)
+      → Step K W Γ (frees E G) (‵ (cells n κs ps j κ ls z) ∷ ‵ (dies ps j ls) ∷ Γ) (frees (before ps j ls E) G)
   free-params k n κs [] j κ ls z = step (λ s. drop k $ drop k $ s)
   free-params k n κs (p ∷ ps) j κ ls z =
       step (λ s. fsplit k $ move k (2 ∷ []) $ fsplit k $ move k (2 ∷ 0 ∷ []) $ freed k $ move k (1 ∷ 0 ∷ []) $
@@ -85,7 +85,7 @@ module _ {M : Type 1} {𝓤 : URA M} {H : Heap 𝓤} {A : Atoms 𝓤} {K : Type 
   -- ---- and those of what is lent again
 
   pub alloc-again : K → (ps : List Param) {Γ : List (Item 𝓤)} {Kt : Env → Goal 𝓤 H}
-      → ((ts : Again ps) → Seq K W (‵ (rooms-again ps ts) ∷ ‵ (ends-again ps ts) ∷ Γ) (Kt (env-again ps ts)))
+      → ((ts : Again ps) → Seq K W (‵ (rooms-again ps ts) ∷ ‵ (dies-again ps ts) ∷ Γ) (Kt (env-again ps ts)))
       → Seq K W Γ (allocs (locals-again ps) Kt)
   alloc-again k [] s = alloc0 k $ nothing k $ nothing k $ s tt
   alloc-again k (number w ∷ ps) s = alloc-again k ps s
@@ -95,7 +95,7 @@ module _ {M : Type 1} {𝓤 : URA M} {H : Heap 𝓤} {A : Atoms 𝓤} {K : Type 
       move k (5 ∷ 3 ∷ 1 ∷ []) $ fjoin3 k $ move k (3 ∷ 2 ∷ 1 ∷ []) $ fjoin3 k $ s (l, m, ts))))
 
   pub free-again : K → (n : ℕ) (κs : Lfts n) (ps : List Param) (j : ℕ) (κ : Lfts n → Lfts (lifetimes ps)) (ts : Again ps) (z : Handed n κs ps j κ) {G : Goal 𝓤 H} {Γ : List (Item 𝓤)}
-      → Step K W Γ G (‵ (cells-again n κs ps j κ ts z) ∷ ‵ (ends-again ps ts) ∷ Γ) (frees (env-again ps ts) G)
+      → Step K W Γ G (‵ (cells-again n κs ps j κ ts z) ∷ ‵ (dies-again ps ts) ∷ Γ) (frees (env-again ps ts) G)
   free-again k n κs [] j κ ts z = step (λ s. drop k $ drop k $ free0 k $ s)
   free-again k n κs (number w ∷ ps) j κ ts z = free-again k n κs ps j κ ts (z .1)
   free-again k n κs (read w ∷ ps) j κ ts z = free-again k n κs ps (suc j) (λ κs. κ κs .1) ts (z .1)

@@ -1,9 +1,9 @@
--- The walk that all bench calls share. A call copies the bench that it is lent, asks the function by value with the copy, and hands it what the
+-- The walk that all bench calls share. A call copies the bench that it is lent, asks the function inside with the copy, and hands it what the
 -- call was passed. How it ends depends on the way in which the bench is lent (Looking, Altering). Calls differ in their form (Forms), in the
 -- function's key and answer, and in what its contract says: those are the parameters. Assumes nothing.
 --     code      the call's MIR: `code.function` is this, by computation
 --     walk      from the call's entry to its end
---     called    the theorem, at the routine of a call's own proof
+--     spec      the theorem, at the routine of a call's own proof
 use mathlib.Core.Path.{refl, ap, subst}
 use Prim.Native.Nat.{ℕ, suc}
 use mathlib.Core.List.{[], _∷_, List}
@@ -61,23 +61,23 @@ abbrev pub way : Lending → Mutability
 way looked = imm
 way altered = mut
 
-abbrev pub row : Lending → Lft → RattleType
-row looked κ = ShrRef (named 0) κ B.the-row
-row altered κ = MutRef (named 0) κ B.the-row
+abbrev pub bench-row : Lending → Lft → RattleType
+bench-row looked κ = ShrRef (named 0) κ B.the-row
+bench-row altered κ = MutRef (named 0) κ B.the-row
 
-abbrev pub pointer : Lending → Ty
-pointer L = tyRef (named 0) (way L) (pointee (B.the-row .written))
+abbrev pub bench-pointer : Lending → Ty
+bench-pointer L = tyRef (named 0) (way L) (pointee (B.the-row .written))
 
-abbrev pub ref : (L : Lending) (κ : Lft) → row L κ .Denot → RefT Bench
+abbrev pub ref : (L : Lending) (κ : Lft) → bench-row L κ .Denot → RefT Bench
 ref looked κ x = x
 ref altered κ x = x
 
 abbrev pub address : RefT Bench → Val
 address x = vptr (x .ptr .0) (x .ptr .1)
 
-pub tell : (L : Lending) (κ : Lft) → Tells (row L κ) (Is (row L κ)) (λ x. address (ref L κ x) ∷ [])
-tell looked κ = shr-tells (named 0) κ B.the-row
-tell altered κ = mut-tells (named 0) κ B.the-row
+pub bench-tells : (L : Lending) (κ : Lft) → Tells (bench-row L κ) (Is (bench-row L κ)) (λ x. address (ref L κ x) ∷ [])
+bench-tells looked κ = shr-tells (named 0) κ B.the-row
+bench-tells altered κ = mut-tells (named 0) κ B.the-row
 
 -- what is had of the borrow besides its token, where the bench behind x is h
 abbrev pub held : Lending → Lft → RefT Bench → Bench → Fml
@@ -85,18 +85,18 @@ held looked κ x h = fsep (fres (x .name) (B.the-row .coded .code h)) (fshr-bor 
 held altered κ x h = fsep (fobs (x .name) (B.the-row .coded .code h)) (fbor κ (Held (mem B.the-row) (x .ptr .0) (x .ptr .1) (x .name)))
 
 module _ {M : Type 1} {𝓤 : URA M} {H : Heap 𝓤} {A : Atoms 𝓤} {K : Type 0} {W : Given 𝓤 H A} {Γ : List (Item 𝓤)} where
-  pub holds : K → (L : Lending) (κ : Lft) (x : row L κ .Denot) {G : Goal 𝓤 H}
-      → Step K W (‵ (held L κ (ref L κ x) (ref L κ x .now)) ∷ Γ) G (‵ (row L κ .own x (address (ref L κ x) ∷ [])) ∷ Γ) G
+  pub holds : K → (L : Lending) (κ : Lft) (x : bench-row L κ .Denot) {G : Goal 𝓤 H}
+      → Step K W (‵ (held L κ (ref L κ x) (ref L κ x .now)) ∷ Γ) G (‵ (bench-row L κ .own x (address (ref L κ x) ∷ [])) ∷ Γ) G
   holds k looked κ x = step (λ s. fsplit k $ drop k $ s)
   holds k altered κ x = step (λ s. fsplit k $ drop k $ s)
 
   -- the bench is copied to the local l
   pub copies : K → (L : Lending) (κ : Lft) (q : Share) (x : RefT Bench) {C : Calls 𝓤 H} {Λ : Loops 𝓤 H} {e₀ : Ty × ℕ} {l l₁ i : ℕ} {E F : Env} {rest : Body} {Q : Post 𝓤 H}
-      → At ((B′.mir, l) ∷ F) (e₀ ∷ (pointer L, l₁) ∷ E) i
-      → (Is B.the-row (x .now) (bench-val (x .now) ∷ []) → Seq K W (‵ (held L κ x (x .now)) ∷ ‵ (flft κ q) ∷ ‵ (fat fullShare (pointer L) l₁ 0 (address x)) ∷ ‵ (fat fullShare B′.mir l 0 (bench-val (x .now))) ∷ Γ)
-      (runs C Λ (e₀ ∷ (pointer L, l₁) ∷ E) rest Q))
-      → Seq K W (‵ (held L κ x (x .now)) ∷ ‵ (flft κ q) ∷ ‵ (fat fullShare (pointer L) l₁ 0 (address x)) ∷ ‵ (froom B′.mir l 0) ∷ Γ)
-      (runs C Λ (e₀ ∷ (pointer L, l₁) ∷ E) (seq (assign (place i []) (rvOpd (copy (place 1 (deref B′.mir ∷ []))))) rest) Q)
+      → At ((B′.mir, l) ∷ F) (e₀ ∷ (bench-pointer L, l₁) ∷ E) i
+      → (Is B.the-row (x .now) (bench-val (x .now) ∷ []) → Seq K W (‵ (held L κ x (x .now)) ∷ ‵ (flft κ q) ∷ ‵ (fat fullShare (bench-pointer L) l₁ 0 (address x)) ∷ ‵ (fat fullShare B′.mir l 0 (bench-val (x .now))) ∷ Γ)
+      (runs C Λ (e₀ ∷ (bench-pointer L, l₁) ∷ E) rest Q))
+      → Seq K W (‵ (held L κ x (x .now)) ∷ ‵ (flft κ q) ∷ ‵ (fat fullShare (bench-pointer L) l₁ 0 (address x)) ∷ ‵ (froom B′.mir l 0) ∷ Γ)
+      (runs C Λ (e₀ ∷ (bench-pointer L, l₁) ∷ E) (seq (assign (place i []) (rvOpd (copy (place 1 (deref B′.mir ∷ []))))) rest) Q)
   copies k looked κ q x c s =
       let h = x .now in
       fsplit k $ move k (1 ∷ 2 ∷ []) $
@@ -113,7 +113,7 @@ module _ {M : Type 1} {𝓤 : URA M} {H : Heap 𝓤} {A : Atoms 𝓤} {K : Type 
       assigns k (of-opd k (load k (from k (hop k (look k 5 refl) (stop k))) (look-raw k 0 refl))) (finds k c (stop k)) (init k 6 refl (LL.lawful B.the-type B′.the-laws 𝓤 H A W .typed h _ was .0)) $
       closes k tt B.the-row h (bench-val h ∷ []) (x .ptr .0) (x .ptr .1) $ fjoin k $ s was))
 
--- ---- the call: the function by value answers Y, and the call X, by what it does at the end, which is told the local of that answer
+-- ---- the call: the function inside answers Y, and the call X, by what it does at the end, which is told the local of that answer
 
 module _ (F : Form) (L : Lending) (Y X : Answer) (finish : ℕ → Body) (key : Name) where
   abbrev ps : List Param
@@ -132,7 +132,7 @@ module _ (F : Form) (L : Lending) (Y X : Answer) (finish : ℕ → Body) (key : 
     outlives = [];
     params = past ps 1;
     locals =
-        local (X .mir) valueLocal ∷ local (pointer L) valueLocal
+        local (X .mir) valueLocal ∷ local (bench-pointer L) valueLocal
         ∷ locals ps 1 (local B′.mir valueLocal ∷ local Q′.mir valueLocal ∷ local (Y .mir) valueLocal ∷ locals-again ps);
     body =
         seq (assign (place (past ps 2) []) (rvOpd (copy (place 1 (deref B′.mir ∷ [])))))
@@ -142,7 +142,7 @@ module _ (F : Form) (L : Lending) (Y X : Answer) (finish : ℕ → Body) (key : 
   }
 
   abbrev pub ended : Ended
-  ended = shape ps n 1 (others ps) (plain (λ κs. row L (κs .0))) (X .row)
+  ended = shape ps n 1 (others ps) (plain (λ κs. bench-row L (κs .0))) (X .row)
 
   -- the contract, with one fact for its `ensures`: the generated `clauses` are this, by computation
   abbrev pub Telling : Type 1
@@ -154,7 +154,7 @@ module _ (F : Form) (L : Lending) (Y X : Answer) (finish : ℕ → Body) (key : 
   abbrev pub Contracted : {M : Type 1} (𝓤 : URA M) (H : Heap 𝓤) (A : Atoms 𝓤) → Telling → Contract 𝓤
   Contracted 𝓤 H A Told = tripleOf 𝓤 H A (ended .signature) (closing 𝓤 H A ended (asks 𝓤 Told))
 
-  module _ (Said : Says ps (Y .row .Denot)) {M : Type 1} (𝓤 : URA M) (H : Heap 𝓤) (A : Atoms 𝓤) (W : Given 𝓤 H A) (κs : CallLfts ps) (qs : Shares n) (bench : row L (κs .0) .Denot) (z : Further ps κs) where
+  module _ (Said : Says ps (Y .row .Denot)) {M : Type 1} (𝓤 : URA M) (H : Heap 𝓤) (A : Atoms 𝓤) (W : Given 𝓤 H A) (κs : CallLfts ps) (qs : Shares n) (bench : bench-row L (κs .0) .Denot) (z : Further ps κs) where
     abbrev x : RefT Bench
     x = ref L (κs .0) bench
 
@@ -164,12 +164,12 @@ module _ (F : Form) (L : Lending) (Y X : Answer) (finish : ℕ → Body) (key : 
     -- from the stored answer t to the stored result: the bench is then `left t`
     abbrev pub Ends : (Y .row .Denot → X .row .Denot) → (Y .row .Denot → Bench) → Type 2
     Ends answer left = (C : Calls 𝓤 H) (Λ : Loops 𝓤 H) (l₀ l₁ l₄ : ℕ) (E Fs : Env) (q : Post 𝓤 H) (Γ : List (Item 𝓤)) (t : Y .row .Denot)
-        → At ((Y .mir, l₄) ∷ Fs) ((X .mir, l₀) ∷ (pointer L, l₁) ∷ E) answered → Is (Y .row) t (Y .val t ∷ [])
+        → At ((Y .mir, l₄) ∷ Fs) ((X .mir, l₀) ∷ (bench-pointer L, l₁) ∷ E) answered → Is (Y .row) t (Y .val t ∷ [])
         → Step Go W
-        (‵ (held L (κs .0) x (left t)) ∷ ‵ (flft (κs .0) (qs .0)) ∷ ‵ (fat fullShare (pointer L) l₁ 0 (address x)) ∷ ‵ (fat fullShare (Y .mir) l₄ 0 (Y .val t)) ∷ ‵ (fat fullShare (X .mir) l₀ 0 (X .val (answer t))) ∷ Γ)
-        (runs C Λ ((X .mir, l₀) ∷ (pointer L, l₁) ∷ E) return q)
-        (‵ (held L (κs .0) x h) ∷ ‵ (flft (κs .0) (qs .0)) ∷ ‵ (fat fullShare (pointer L) l₁ 0 (address x)) ∷ ‵ (fat fullShare (Y .mir) l₄ 0 (Y .val t)) ∷ ‵ (froom (X .mir) l₀ 0) ∷ Γ)
-        (runs C Λ ((X .mir, l₀) ∷ (pointer L, l₁) ∷ E) (finish answered) q)
+        (‵ (held L (κs .0) x (left t)) ∷ ‵ (flft (κs .0) (qs .0)) ∷ ‵ (fat fullShare (bench-pointer L) l₁ 0 (address x)) ∷ ‵ (fat fullShare (Y .mir) l₄ 0 (Y .val t)) ∷ ‵ (fat fullShare (X .mir) l₀ 0 (X .val (answer t))) ∷ Γ)
+        (runs C Λ ((X .mir, l₀) ∷ (bench-pointer L, l₁) ∷ E) return q)
+        (‵ (held L (κs .0) x h) ∷ ‵ (flft (κs .0) (qs .0)) ∷ ‵ (fat fullShare (bench-pointer L) l₁ 0 (address x)) ∷ ‵ (fat fullShare (Y .mir) l₄ 0 (Y .val t)) ∷ ‵ (froom (X .mir) l₀ 0) ∷ Γ)
+        (runs C Λ ((X .mir, l₀) ∷ (bench-pointer L, l₁) ∷ E) (finish answered) q)
 
     -- and what is had once the locals are freed, which shows the contract's end
     abbrev pub Remains : Bench → Last ps κs z → List (Item 𝓤)
@@ -185,7 +185,7 @@ module _ (F : Form) (L : Lending) (Y X : Answer) (finish : ℕ → Body) (key : 
           enter ! (𝓣 .C) (𝓣 .Λ) code (address x ∷ passed n κs ps 1 (others ps) z) _ $
           alloc1 ! (λ l₀. alloc1 ! (λ l₁. alloc-params ! ps 1 (λ ls. alloc1 ! (λ l₂. alloc1 ! (λ l₃. alloc1 ! (λ l₄. alloc-again ! ps (λ ts.
           let Fs : Env = (B′.mir, l₂) ∷ (Q′.mir, l₃) ∷ (Y .mir, l₄) ∷ env-again ps ts in
-          let E : Env = (X .mir, l₀) ∷ (pointer L, l₁) ∷ before ps 1 ls Fs in
+          let E : Env = (X .mir, l₀) ∷ (bench-pointer L, l₁) ∷ before ps 1 ls Fs in
           let a : At (before ps 1 ls Fs) E 2 = there (there here) in
           let c : At Fs E (past ps 2) = at-past ps 1 ls a in
           params1 ! $ pass1 ! (init ! 10 refl (tt, tt)) $ move ! (8 ∷ []) $ pass-params ! n κs ps 1 (others ps) ls z fit $ pass0 ! $
@@ -218,9 +218,9 @@ module _ (F : Form) (L : Lending) (Y X : Answer) (finish : ℕ → Body) (key : 
   -- ---- and to the contract
 
   module _ (Said : Says ps (Y .row .Denot)) (Told : Telling) (answer : Y .row .Denot → X .row .Denot) (left : Bench → Y .row .Denot → Bench)
-      (end : (M : Type 1) (𝓤 : URA M) (H : Heap 𝓤) (A : Atoms 𝓤) (W : Given 𝓤 H A) (κs : CallLfts ps) (qs : Shares n) (bench : row L (κs .0) .Denot) (z : Further ps κs)
+      (end : (M : Type 1) (𝓤 : URA M) (H : Heap 𝓤) (A : Atoms 𝓤) (W : Given 𝓤 H A) (κs : CallLfts ps) (qs : Shares n) (bench : bench-row L (κs .0) .Denot) (z : Further ps κs)
       → Ends Said 𝓤 H A W κs qs bench z answer (left (ref L (κs .0) bench .now)))
-      (shows-end : (M : Type 1) (𝓤 : URA M) (H : Heap 𝓤) (A : Atoms 𝓤) (W : Given 𝓤 H A) (κs : CallLfts ps) (qs : Shares n) (bench : row L (κs .0) .Denot) (z : Further ps κs) (t : Y .row .Denot) (ws : Last ps κs z)
+      (shows-end : (M : Type 1) (𝓤 : URA M) (H : Heap 𝓤) (A : Atoms 𝓤) (W : Given 𝓤 H A) (κs : CallLfts ps) (qs : Shares n) (bench : bench-row L (κs .0) .Denot) (z : Further ps κs) (t : Y .row .Denot) (ws : Last ps κs z)
       → Holds ps Said κs (askedOf (ref L (κs .0) bench .now)) z t ws → Is (Y .row) t (Y .val t ∷ [])
       → ent 𝓤 (⋆ 𝓤 H A (Remains Said 𝓤 H A W κs qs bench z (left (ref L (κs .0) bench .now) t) ws))
       (Contracted 𝓤 H A Told .post ((κs, qs, tt, (bench, z), (address (ref L (κs .0) bench) ∷ [], values n κs ps 1 (others ps) z)), tt) (X .val (answer t)))) where
@@ -229,7 +229,7 @@ module _ (F : Form) (L : Lending) (Y X : Answer) (finish : ℕ → Body) (key : 
     meets {M} 𝓤 H A W 𝓣 known y =
         let κs : CallLfts ps = y .0 .0 in
         via 𝓤 _ (fst∗ 𝓤 _ (emp 𝓤))
-        (at-entry 𝓤 H A (ended .signature) κs (y .0 .1) ((λ b. address (ref L (κs .0) b) ∷ []), param.spells n κs ps 1 (others ps)) (tell L (κs .0), param.tells n κs ps 1 (others ps)) (y .0 .3)
+        (at-entry 𝓤 H A (ended .signature) κs (y .0 .1) ((λ b. address (ref L (κs .0) b) ∷ []), param.spells n κs ps 1 (others ps)) (bench-tells L (κs .0), param.tells n κs ps 1 (others ps)) (y .0 .3)
         (λ us. WpFn 𝓤 H (𝓣 .C) (𝓣 .Λ) code (flat (typesAt (ended .signature .params) κs) us) (Contracted 𝓤 H A Told .post y)) (y .0 .4)
         (λ are. walk Said 𝓤 H A W κs (y .0 .1) (y .0 .3 .0) (y .0 .3 .1) answer (left (ref L (κs .0) (y .0 .3 .0) .now)) (end M 𝓤 H A W κs (y .0 .1) (y .0 .3 .0) (y .0 .3 .1)) _
         (shows-end M 𝓤 H A W κs (y .0 .1) (y .0 .3 .0) (y .0 .3 .1)) 𝓣 known (are .1)))

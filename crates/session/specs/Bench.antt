@@ -28,8 +28,8 @@ benchAtExit b mem table = atExit (now (b .exit) .state) mem table
 abbrev pub countsIn : Sampled → Counts
 countsIn s = record { forward = s .forward; back = s .back; refused = s .refused; last = s .last; refusal = s .refusal }
 
--- What a load promises of its answer a, and of the machine y that the bench x then is: a is what load by value answers; and the
--- bench has the record of a where the load is accepted, else its own.
+-- What a load on the bench x promises, which gives the answer a and leaves the bench y: a is what load by value answers, and the
+-- bench has the record of a if the load is accepted, else its own.
 pub record BenchLoadPromise (file : List ℕ) (x : Machine) (a : Loaded) (y : Machine) : Type 0 where
   pub load : LoadPromise file (x .memory) (x .table) (a .refusal) (machineOf (a .state) (y .memory) (y .table))
   pub bench : y .state ≡ pick (eqb (a .refusal) 0) (a .state) (x .state)

@@ -1,5 +1,5 @@
-// The calls by value. Each is asked with the bench as it stands, takes that apart and uses the call on what is inside;
-// one that alters the bench answers what it has become, and what its caller is told.
+// The functions inside. Each takes the bench apart and makes the call by value on its record; one that alters the bench
+// gives the new bench, and what the caller is told.
 ghost use mathlib.Core.Path.{_≡_};
 ghost use Rattle.step.specs.declared.Direction.{Direction};
 ghost use Rattle.machine.specs.Lent.{atEntry, atExit};
@@ -19,7 +19,7 @@ use image::Loaded;
 use links::Checked;
 use machine::Preview;
 
-// What every call is asked with.
+// What every function inside is asked with.
 pub(crate) struct Asked {
     pub(crate) bench: Bench,
 }

@@ -1,5 +1,5 @@
-// The lesson bench: one record, lent by `&mut` to the calls that alter it and by `&` to those that only look. Each
-// call asks the call by value with a copy of it, puts back what it has become, and answers.
+// The lesson bench: one record, lent by `&mut` to the calls that alter it and by `&` to those that only look. Each call
+// copies the bench and asks the function inside; one that alters the bench stores what that function gives back.
 ghost use mathlib.Core.Path.{_≡_};
 ghost use Rattle.step.specs.declared.Direction.{Direction};
 ghost use Rattle.machine.specs.Calls.{TurnPromise};
@@ -157,7 +157,7 @@ pub extern "C" fn bench_make_table(
     t.answer
 }
 
-// ---- calls that only look at it
+// ---- calls that only look at it; the answer is in a local, as in those above, since one walk goes through all
 
 // The turn forward, shown and not made.
 #[no_mangle]
