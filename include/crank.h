@@ -5,9 +5,10 @@
  * docs/CALLS.md says how they are built, docs/MANUAL.md what the machine does and, in section 10, what
  * each refusal means. A refusal of 0 is none.
  *
- * A lent slice is a pointer followed by its length in elements. No pointer is null, not even one for
- * length 0, and what a call may write overlaps nothing else that is lent to it. Apart from that, every
- * call takes every argument.
+ * A lent slice is a pointer followed by its length in elements. It points to as many elements as its
+ * length says, aligned as their type asks. No pointer is null, not even one for length 0, and what a
+ * call may write overlaps nothing else that is lent to it. Apart from that, every call takes every
+ * argument.
  */
 #ifndef CRANK_H
 #define CRANK_H
@@ -259,10 +260,11 @@ Made crank_make_table(Record r, uint32_t limit, uint32_t *mem, size_t mem_len,
 
 /* ---- The lesson bench: libsession.a ----
  *
- * The load and every call above that takes a record, with the record in *b: a bench_ call is lent the
- * same as its crank_ call, refuses by the same rules and answers the same, though turns, batches, samples
- * and tables without the record. A call that takes a const Bench only reads it. Any other leaves in *b
- * the record that the crank_ call would have answered, except a refused load, which leaves *b as it was.
+ * These are the load and every call above that takes a record, with the record in *b. A bench_ call is
+ * lent the same words as its crank_ call, and refuses by the same rules. Its answer is the same, except
+ * that turns, batches, samples and tables answer without the record. A call that takes a const Bench only
+ * reads it. Any other leaves in *b the record that the crank_ call would have answered, except a refused
+ * load, which leaves *b as it was.
  */
 
 /* One turn; answers its refusal. Refused: *b and mem are as they were. */

@@ -33,8 +33,8 @@
 //!
 //! The build needs the static libraries of the proved code; where they are missing it says what to
 //! run. The code behind these calls is proved for all arguments; the declarations in this package
-//! are not, so tests check what comes of them: those of `rust/model` compare every call by value with an
-//! independent model, those of this package every call of the lesson bench with the one by value.
+//! are not, so tests check the calls: those of `rust/model` compare each with an independent model, by
+//! value and on the lesson bench.
 
 pub mod calls;
 mod kind;
