@@ -22,11 +22,11 @@ use types.Kit.{Given, ‵, ⋆, _$_, _∵_, !, qed, move, drop, use1, join, rewr
 use types.Run.{look, store-raw, init, stop, hop, fld, from, load, of-opd, assigns}
 use types.Part.{whole, sub, look-in}
 use denote.RattleType.{mirs}
-use denote.Laws.{Is, shows}
+use denote.Laws.{Is, shows, valss}
 use denote.Ref.{now, RefT}
 use denote.Steps.{opens, closes, owned}
-use denote.Struct.Struct.{toTys, Plains}
-use denote.Struct.Declared.{Declared, fields, row as row-of}
+use denote.Struct.Struct.{toTys, Plains, AreAll}
+use denote.Struct.Declared.{Declared, fields}
 use denote.Struct.Laws as LL
 use denote.Struct.Steps.{spelt}
 use denote.Triple.Bound.{Bound}
@@ -57,7 +57,8 @@ pub record After (X : Answer) : Type 2 where
   pub bench-at : fieldAt zero (toTys (mirs (fields type))) 0 ≡ yields (B′.mir, 0)
   pub offset : ℕ
   pub answer-at : fieldAt zero (toTys (mirs (fields type))) 1 ≡ yields (X .mir, offset)
-  pub are : (t : type .D) (vs : List Val) → Is (row-of type) t vs → Is B.the-row (bench t) (bench-val (bench t) ∷ []) × Is (X .row) (answer t) (X .val (answer t) ∷ [])
+  pub are : (t : type .D) → AreAll (fields type) (type .to t) (valss (fields type) (LL.spells (type .parts) laws) (type .to t))
+      → Is B.the-row (bench t) (bench-val (bench t) ∷ []) × Is (X .row) (answer t) (X .val (answer t) ∷ [])
 
 -- of the function's answer, in the local i, the bench goes behind the reference, and the rest is the result
 abbrev finish : ℕ → Body
@@ -87,7 +88,7 @@ module _ (F : Form) {X : Answer} (S : After X) (key : Name) (Said : Says (F .par
   module _ (M : Type 1) (𝓤 : URA M) (H : Heap 𝓤) (A : Atoms 𝓤) (W : Given 𝓤 H A) (κs : CallLfts ps) (qs : Shares n) (bench : RefT Bench) (z : Further ps κs) where
     ends : Ends F altered Y X finish key Said 𝓤 H A W κs qs bench z (S .answer) (S .bench)
     ends C Λ l₀ l₁ l₄ E Fs q Γ t c is =
-        let so = S .are t _ is in
+        let so = S .are t (LL.owed (S .type) (S .laws) t _ is) in
         step (λ s. rewrite ! 3 (λ (u : Val). ‵ (fat fullShare (Y .mir) l₄ 0 u)) (S .val-is t) refl $ fsplit ! $ opens ! tt B.the-row {h = bench .now} (bench .ptr .0) (bench .ptr .1) (λ vs.
         spelt ! B.the-row (Is B.the-row) (shows 𝓤 H A B.the-row) (LL.vals B.the-type B′.the-laws) (LL.tells B.the-type B′.the-laws) fullShare (bench .now) vs (bench .ptr .0) (bench .ptr .1) $
         move ! (1 ∷ []) $ drop ! $
@@ -108,7 +109,7 @@ module _ (F : Form) {X : Answer} (S : After X) (key : Name) (Said : Says (F .par
     exits t ws e is =
         qed W (Remains F altered Y X finish key Said 𝓤 H A W κs qs bench z (S .bench t) ws) ∵ updating ! $ at-once ! $
         show ! (λ r. sep 𝓤 (Back 𝓤 H A (T .signature) y (X .val (S .answer t)) r) (ensured 𝓤 H A T (asked-for 𝓤) κs (bench, z) tt r)) (S .answer t) $
-        owned ! (X .row) (Is (X .row)) (X .makes M 𝓤 H A W) (S .answer t) _ (S .are t _ is .1) $ move ! (2 ∷ 4 ∷ 0 ∷ []) $ join ! $ join ! $ frame ! $
+        owned ! (X .row) (Is (X .row)) (X .makes M 𝓤 H A W) (S .answer t) _ (S .are t (LL.owed (S .type) (S .laws) t _ is) .1) $ move ! (2 ∷ 4 ∷ 0 ∷ []) $ join ! $ join ! $ frame ! $
         show ! (λ us. sep 𝓤 (sem 𝓤 H A (lasts T κs (bench, z) us)) (asked-for 𝓤 κs (bench, z) .ensures tt (S .answer t) (atExit T κs (bench, z) us))) (S .bench t, ws) $
         says ! (subst (λ (u : S .type .D). Holds ps Said κs (askedOf (bench .now)) z u ws) (S .both-is t) e) $
         fsplit ! $ use1 W (‵ (fres (bench .name) (B.the-row .coded .code (S .bench t)))) (W .names .obs-res (bench .name) (B.the-row .coded .code (S .bench t))) $

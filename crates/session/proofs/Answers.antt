@@ -4,7 +4,6 @@ use mir.Syntax.{w32, tyInt}
 use mir.Val.{vint}
 use denote.Plain.{uint-tells, uint-lawful, uint-makes}
 use denote.Builtin.{u32}
-use denote.Struct.Laws as LL
 use Rattle.machine.proofs.Preview as Q
 use Rattle.machine.proofs.Preview.Laws as Q′
 use Rattle.links.proofs.Checked as C
@@ -58,84 +57,19 @@ loaded = struct-answer L.the-type L′.the-laws L′.the-plain
 abbrev pub tabled : Answer
 tabled = struct-answer T.the-type T′.the-laws T′.the-plain
 
--- ---- with the bench
+-- ---- with the bench: each by its own struct, as the compiler has laid it out
 
 abbrev pub after-turn : After refusal
-after-turn = record {
-  type = AT.the-type;
-  laws = AT′.the-laws;
-  plains = AT′.the-plain;
-  bench = λ t. t .bench;
-  answer = λ t. t .answer;
-  both = λ h r. record { bench = h; answer = r };
-  both-is = λ t. refl;
-  val-is = λ t. refl;
-  bench-at = refl;
-  offset = _;
-  answer-at = refl;
-  are = λ t vs is. let o = LL.owed AT.the-type AT′.the-laws t vs is in (o .0, o .1 .0);
-}
+after-turn = record { type = AT.the-type; laws = AT′.the-laws; plains = AT′.the-plain; bench = λ t. t .bench; answer = λ t. t .answer; both = λ h r. record { bench = h; answer = r }; both-is = λ t. refl; val-is = λ t. refl; bench-at = refl; offset = _; answer-at = refl; are = λ t o. (o .0, o .1 .0) }
 
 abbrev pub after-batch : After cranked
-after-batch = record {
-  type = AB.the-type;
-  laws = AB′.the-laws;
-  plains = AB′.the-plain;
-  bench = λ t. t .bench;
-  answer = λ t. t .answer;
-  both = λ h r. record { bench = h; answer = r };
-  both-is = λ t. refl;
-  val-is = λ t. refl;
-  bench-at = refl;
-  offset = _;
-  answer-at = refl;
-  are = λ t vs is. let o = LL.owed AB.the-type AB′.the-laws t vs is in (o .0, o .1 .0);
-}
+after-batch = record { type = AB.the-type; laws = AB′.the-laws; plains = AB′.the-plain; bench = λ t. t .bench; answer = λ t. t .answer; both = λ h r. record { bench = h; answer = r }; both-is = λ t. refl; val-is = λ t. refl; bench-at = refl; offset = _; answer-at = refl; are = λ t o. (o .0, o .1 .0) }
 
 abbrev pub after-samples : After sampled
-after-samples = record {
-  type = AS.the-type;
-  laws = AS′.the-laws;
-  plains = AS′.the-plain;
-  bench = λ t. t .bench;
-  answer = λ t. t .answer;
-  both = λ h r. record { bench = h; answer = r };
-  both-is = λ t. refl;
-  val-is = λ t. refl;
-  bench-at = refl;
-  offset = _;
-  answer-at = refl;
-  are = λ t vs is. let o = LL.owed AS.the-type AS′.the-laws t vs is in (o .0, o .1 .0);
-}
+after-samples = record { type = AS.the-type; laws = AS′.the-laws; plains = AS′.the-plain; bench = λ t. t .bench; answer = λ t. t .answer; both = λ h r. record { bench = h; answer = r }; both-is = λ t. refl; val-is = λ t. refl; bench-at = refl; offset = _; answer-at = refl; are = λ t o. (o .0, o .1 .0) }
 
 abbrev pub after-load : After loaded
-after-load = record {
-  type = AL.the-type;
-  laws = AL′.the-laws;
-  plains = AL′.the-plain;
-  bench = λ t. t .bench;
-  answer = λ t. t .answer;
-  both = λ h r. record { bench = h; answer = r };
-  both-is = λ t. refl;
-  val-is = λ t. refl;
-  bench-at = refl;
-  offset = _;
-  answer-at = refl;
-  are = λ t vs is. let o = LL.owed AL.the-type AL′.the-laws t vs is in (o .0, o .1 .0);
-}
+after-load = record { type = AL.the-type; laws = AL′.the-laws; plains = AL′.the-plain; bench = λ t. t .bench; answer = λ t. t .answer; both = λ h r. record { bench = h; answer = r }; both-is = λ t. refl; val-is = λ t. refl; bench-at = refl; offset = _; answer-at = refl; are = λ t o. (o .0, o .1 .0) }
 
 abbrev pub after-make : After tabled
-after-make = record {
-  type = AM.the-type;
-  laws = AM′.the-laws;
-  plains = AM′.the-plain;
-  bench = λ t. t .bench;
-  answer = λ t. t .answer;
-  both = λ h r. record { bench = h; answer = r };
-  both-is = λ t. refl;
-  val-is = λ t. refl;
-  bench-at = refl;
-  offset = _;
-  answer-at = refl;
-  are = λ t vs is. let o = LL.owed AM.the-type AM′.the-laws t vs is in (o .0, o .1 .0);
-}
+after-make = record { type = AM.the-type; laws = AM′.the-laws; plains = AM′.the-plain; bench = λ t. t .bench; answer = λ t. t .answer; both = λ h r. record { bench = h; answer = r }; both-is = λ t. refl; val-is = λ t. refl; bench-at = refl; offset = _; answer-at = refl; are = λ t o. (o .0, o .1 .0) }
