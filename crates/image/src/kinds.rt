@@ -4,7 +4,7 @@ ghost use Rattle.word.specs.Lists.{same};
 ghost use Rattle.image.specs.Format.{last_bytes, kind_of};
 
 // A kind of image: its last four bytes, and the words that its trailer has more than the first kind's.
-#[derive(Drop)]
+#[derive(Clone, Copy)]
 pub(crate) struct Kind {
     pub(crate) last: [u8; 4],
     pub(crate) more: u32,

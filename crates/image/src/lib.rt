@@ -1,4 +1,5 @@
 // Machine images: load, preface and save.
+#![tactic(auto)]
 ghost use Rattle.std.specs.Prelude.{◌≡◌, ◌++◌, ◌*◌, ◌^◌, ◌<◌, ◌≤◌, length, drop};
 ghost use Rattle.step.specs.Table.{table_words};
 ghost use Rattle.machine.specs.Lent.{at_entry, at_exit};
@@ -19,7 +20,7 @@ use words::{read_words, write_words};
 
 // What load answers: the refusal, 0 for none, and the record, zeros where it is refused.
 #[repr(C)]
-#[derive(Drop)]
+#[derive(Clone, Copy)]
 pub struct Loaded {
     pub refusal: u32,
     pub state: Record,

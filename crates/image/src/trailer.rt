@@ -35,7 +35,7 @@ const MORE: usize = QIFW + 1;
 const POSITION: usize = MORE;
 
 // What a trailer says: the kind of its image, the back that is stored in it, and the record.
-#[derive(Drop)]
+#[derive(Clone, Copy)]
 pub(crate) struct Trailer {
     pub(crate) kind: Kind,
     pub(crate) back: u32,

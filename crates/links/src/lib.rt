@@ -1,4 +1,5 @@
 // The check of a machine: its code words, and the links of its qif table.
+#![tactic(auto)]
 ghost use Rattle.std.specs.Prelude.{◌≡◌, take};
 ghost use Rattle.machine.specs.Lent.{at_entry};
 ghost use Rattle.links.specs.Check.{first_of, no_instruction, check_of, check_node_of};
@@ -11,7 +12,7 @@ use step::table::is_node;
 
 // What check answers: the refusal, 0 for none, and the lowest address or node that fails.
 #[repr(C)]
-#[derive(Drop)]
+#[derive(Clone, Copy)]
 pub struct Checked {
     pub refusal: u32,
     pub place: u32,

@@ -14,7 +14,7 @@ use step::sizes::are_bad_sizes;
 use step::{Attempt, Direction, Effect, Status, Store};
 
 // What a turn in place answers: the refusal, the new status, and what it would store if it is not live.
-#[derive(Drop)]
+#[derive(Clone, Copy)]
 pub struct Stepped {
     pub refusal: u32,
     pub at: Status,
@@ -140,7 +140,7 @@ fn execute(d: Direction, at: Status, regs: &[u32], mem: &[u32], table: &[u32]) -
 }
 
 // What a turn is to do, and pc after it.
-#[derive(Drop)]
+#[derive(Clone, Copy)]
 struct Planned {
     attempt: Attempt,
     next: u32,

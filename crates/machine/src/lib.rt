@@ -1,4 +1,5 @@
 // The register record and its turns.
+#![tactic(auto)]
 ghost use Rattle.std.specs.Prelude.{◌≡◌, ◌≤◌};
 ghost use Rattle.qins.specs.Decode.{is_instruction};
 ghost use Rattle.step.specs.declared.Direction.{Direction};
@@ -21,7 +22,7 @@ use step::{Direction, Status, Store};
 // count qifw; and the sizes: K words of code, M of memory, N nodes. And document 02's position, from
 // any value: one more for each accepted turn forward, one less for each back.
 #[repr(C)]
-#[derive(Drop)]
+#[derive(Clone, Copy)]
 pub struct Record {
     pub regs: [u32; 16],
     pub qifv: u32,
@@ -35,7 +36,7 @@ pub struct Record {
 // What a turn answers: the new record and the refusal, 0 for none. The record is first, since a gap
 // before it would have it copied out of step with how it was written.
 #[repr(C)]
-#[derive(Drop)]
+#[derive(Clone, Copy)]
 pub struct Turned {
     pub state: Record,
     pub refusal: u32,
@@ -44,7 +45,7 @@ pub struct Turned {
 // What a batch answers: the turns made, k, the refusal of the next one where they are fewer than asked for,
 // else 0, and the new record.
 #[repr(C)]
-#[derive(Drop)]
+#[derive(Clone, Copy)]
 pub struct Batch {
     pub turns: u32,
     pub refusal: u32,
@@ -54,7 +55,7 @@ pub struct Batch {
 // What a preview answers: the turn's refusal; whether it would change a memory word, 1 or 0, that word's
 // address and new value, 0 where it would not; and the record after the turn.
 #[repr(C)]
-#[derive(Drop)]
+#[derive(Clone, Copy)]
 pub struct Preview {
     pub refusal: u32,
     pub changes: u32,
@@ -66,7 +67,7 @@ pub struct Preview {
 // What a run comes to: the turns made and the refusal as a batch answers them, the status and the
 // registers after them, and what its turn would store if it is not live. The record is not among it:
 // each caller builds its own, which is then copied less.
-#[derive(Drop)]
+#[derive(Clone, Copy)]
 struct Ran {
     turns: u32,
     refusal: u32,

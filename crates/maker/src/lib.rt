@@ -1,4 +1,5 @@
 // The qif table of a program, made by walking it through both branches of every qif, uni and unib idle.
+#![tactic(auto)]
 ghost use Rattle.std.specs.Prelude.{◌≡◌, false, ◌*◌, ◌≤◌, length};
 ghost use Rattle.maker.specs.Parts.{Sized};
 ghost use Rattle.machine.specs.Lent.{at_entry, at_exit};
@@ -13,7 +14,7 @@ use machine::Record;
 use step::lent::look as word_of;
 
 // What a word is to a walk: a qif or a fiq, with the register of its coin, or any other.
-#[derive(Drop)]
+#[derive(Clone, Copy)]
 enum Kind {
     Plain,
     Opens(usize),
@@ -21,7 +22,7 @@ enum Kind {
 }
 
 // What stands at pc: a refusal, finish, a word that leads on, a qif, a fiq.
-#[derive(Drop)]
+#[derive(Clone, Copy)]
 enum Seen {
     Halts(u32),
     Last,
@@ -31,7 +32,7 @@ enum Seen {
 }
 
 // What was seen, and the registers after it where it leads on.
-#[derive(Drop)]
+#[derive(Clone, Copy)]
 struct Advanced {
     seen: Seen,
     regs: [u32; 16],
@@ -39,7 +40,7 @@ struct Advanced {
 
 // Where a walk is: its refusal, the registers, the cycles used by all of it, those of this branch with the
 // waits, the nodes made and the present one.
-#[derive(Drop)]
+#[derive(Clone, Copy)]
 struct Walked {
     refusal: u32,
     regs: [u32; 16],
@@ -51,7 +52,7 @@ struct Walked {
 
 // What the call answers: the refusal, the cycles of a walk over the table, and the record at its node 1.
 #[repr(C)]
-#[derive(Drop)]
+#[derive(Clone, Copy)]
 pub struct Made {
     pub refusal: u32,
     pub cycles: u32,

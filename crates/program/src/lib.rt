@@ -1,6 +1,7 @@
 // What the crank program does: it reads an image from standard input, turns forward until refused or LIMIT
 // turns, and prints the turns, the refusal and the record. What it reads, the arrays that it lends and what
 // it prints are tested; what is done with them is proved.
+#![tactic(auto)]
 ghost use Rattle.std.specs.Prelude.{◌≡◌};
 ghost use Rattle.program.specs.Program.{no_turns, ProgramPromise, status_of, Ran, Exit};
 
@@ -28,7 +29,7 @@ fn no_turns() -> Batch
 }
 
 // What the program does: load's refusal, 0 for none, and the turns that were then made.
-#[derive(Drop)]
+#[derive(Clone, Copy)]
 struct Outcome {
     refusal: u32,
     batch: Batch,

@@ -18,36 +18,36 @@ use links::Checked;
 use machine::Preview;
 
 // What every function inside is asked with.
-#[derive(Drop)]
+#[derive(Clone, Copy)]
 pub(crate) struct Asked {
     pub(crate) bench: Bench,
 }
 
-#[derive(Drop)]
+#[derive(Clone, Copy)]
 pub(crate) struct AfterTurn {
     pub(crate) bench: Bench,
     pub(crate) answer: u32,
 }
 
-#[derive(Drop)]
+#[derive(Clone, Copy)]
 pub(crate) struct AfterBatch {
     pub(crate) bench: Bench,
     pub(crate) answer: Cranked,
 }
 
-#[derive(Drop)]
+#[derive(Clone, Copy)]
 pub(crate) struct AfterSamples {
     pub(crate) bench: Bench,
     pub(crate) answer: Sampled,
 }
 
-#[derive(Drop)]
+#[derive(Clone, Copy)]
 pub(crate) struct AfterLoad {
     pub(crate) bench: Bench,
     pub(crate) answer: Loaded,
 }
 
-#[derive(Drop)]
+#[derive(Clone, Copy)]
 pub(crate) struct AfterMake {
     pub(crate) bench: Bench,
     pub(crate) answer: Tabled,

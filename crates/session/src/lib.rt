@@ -1,5 +1,6 @@
 // The lesson bench: one record, lent by `&mut` to the calls that alter it and by `&` to those that only look. Each call
 // copies the bench and asks the function inside; one that alters the bench stores what that function gives back.
+#![tactic(auto)]
 ghost use Rattle.std.specs.Prelude.{◌≡◌};
 ghost use Rattle.step.specs.declared.Direction.{Direction};
 ghost use Rattle.machine.specs.Calls.{TurnPromise};
@@ -19,7 +20,7 @@ use links::Checked;
 use machine::{Preview, Record};
 
 #[repr(C)]
-#[derive(Drop)]
+#[derive(Clone, Copy)]
 pub struct Bench {
     pub state: Record,
 }
@@ -27,7 +28,7 @@ pub struct Bench {
 // What a batch on the bench answers: the turns made, k, and the refusal of the next one where they are fewer
 // than asked for, else 0.
 #[repr(C)]
-#[derive(Drop)]
+#[derive(Clone, Copy)]
 pub struct Cranked {
     pub turns: u32,
     pub refusal: u32,
@@ -35,7 +36,7 @@ pub struct Cranked {
 
 // What the samples of a call came to on the bench: as the call by value answers, without the record.
 #[repr(C)]
-#[derive(Drop)]
+#[derive(Clone, Copy)]
 pub struct Sampled {
     pub forward: u64,
     pub back: u64,
@@ -46,7 +47,7 @@ pub struct Sampled {
 
 // What the making of a table on the bench answers: likewise.
 #[repr(C)]
-#[derive(Drop)]
+#[derive(Clone, Copy)]
 pub struct Tabled {
     pub refusal: u32,
     pub cycles: u32,

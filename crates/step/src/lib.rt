@@ -1,5 +1,6 @@
 // One instruction at a fixed pc, either way: what it would do, or why it is refused; and the lent
 // words that it reads and writes.
+#![tactic(auto)]
 ghost use Rattle.std.specs.Prelude.{◌≡◌};
 ghost use Rattle.step.specs.View.{sized, with_node, with_nodes};
 
@@ -11,7 +12,7 @@ pub mod sizes;
 pub mod table;
 
 // The record beside its registers: the node qifv, the wait count qifw and the sizes.
-#[derive(Drop)]
+#[derive(Clone, Copy)]
 pub struct Status {
     pub qifv: u32,
     pub qifw: u32,
@@ -54,21 +55,21 @@ impl Status {
     }
 }
 
-#[derive(Drop)]
+#[derive(Clone, Copy)]
 pub enum Direction {
     Forward,
     Back,
 }
 
 // What an instruction does with a memory word: it only reads the word, or exchanges it with a register.
-#[derive(Drop)]
+#[derive(Clone, Copy)]
 pub enum Access {
     Copy,
     Exchange,
 }
 
 // What an instruction does, with its operands read.
-#[derive(Drop)]
+#[derive(Clone, Copy)]
 pub enum Effect {
     Nothing,
     // a register gets a word, or two do
@@ -81,14 +82,14 @@ pub enum Effect {
 }
 
 // The memory word that an effect stores: whether there is one, its address and the word.
-#[derive(Drop)]
+#[derive(Clone, Copy)]
 pub struct Store {
     pub made: bool,
     pub address: u32,
     pub value: u32,
 }
 
-#[derive(Drop)]
+#[derive(Clone, Copy)]
 pub enum Attempt {
     Refused(u32),
     Does(Effect),

@@ -1,4 +1,5 @@
 // The wheel: encoder samples, each of which makes one turn or none.
+#![tactic(auto)]
 ghost use Rattle.std.specs.Prelude.{◌≡◌, ◌+◌, ◌^◌, ◌<◌, ◌≤◌};
 ghost use Rattle.word.specs.Word.{pick};
 ghost use Rattle.machine.specs.Lent.{at_entry, at_exit};
@@ -10,7 +11,7 @@ use word::{choose, refused_if, wide};
 // What the samples of a call came to: turns accepted forward and back, and turns refused; the last sample
 // before any that ended the call, the given one if there is none; the refusal, 0 for none; and the new record.
 #[repr(C)]
-#[derive(Drop)]
+#[derive(Clone, Copy)]
 pub struct Wheeled {
     pub forward: u64,
     pub back: u64,

@@ -1,16 +1,19 @@
 // Arithmetic on words of 32 bits, and choices by a test.
+#![tactic(auto)]
 ghost use Rattle.std.specs.Prelude.{◌≡◌, ◌+◌, ◌-◌, ◌*◌, ◌/◌, ◌%◌, true, false, ◌&&◌, ◌||◌, bit_xor};
 ghost use Rattle.word.specs.Refusal.{refuse};
 ghost use Rattle.word.specs.Word.{pick, add_word, sub_word, mul_word, div_word, complement, with_bit};
 
 pub mod signed;
 
+#[tactic(auto, unfolding(crate::specs::Word::add_word))]
 pub fn add_word(a: u32, b: u32) -> u32
     ensures { result ≡ add_word a b }
 {
     std::num::wrapping_add_u32(a, b)
 }
 
+#[tactic(auto, unfolding(crate::specs::Word::sub_word))]
 pub fn sub_word(a: u32, b: u32) -> u32
     ensures { result ≡ sub_word a b }
 {
@@ -23,6 +26,7 @@ pub fn xor_word(a: u32, b: u32) -> u32
     a ^ b
 }
 
+#[tactic(auto, unfolding(crate::specs::Word::mul_word))]
 pub fn mul_word(a: u32, b: u32) -> u32
     ensures { result ≡ mul_word a b }
 {
@@ -70,6 +74,7 @@ pub fn choose(test: bool, a: u32, b: u32) -> u32
 }
 
 // A refusal: n where the test holds, else the rest.
+#[tactic(auto, unfolding(crate::specs::Refusal::refuse))]
 pub fn refused_if(bad: bool, n: u32, rest: u32) -> u32
     ensures { result ≡ refuse bad n rest }
 {

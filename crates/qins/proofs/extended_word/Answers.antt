@@ -1,0 +1,6 @@
+use borrow.Author.Rules.{rules}
+use Rattle.qins.proofs.extended_word.Goals as goal
+
+pub returns : goal.returns
+unfolding Rattle.qins.specs.Decode.extended
+returns c = simp (c.choose.ensures, c.add_word.ensures)

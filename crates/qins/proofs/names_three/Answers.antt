@@ -1,0 +1,5 @@
+use borrow.Author.Rules.{rules}
+use Rattle.qins.proofs.names_three.Goals as goal
+
+pub returns : goal.returns
+returns c = cc
