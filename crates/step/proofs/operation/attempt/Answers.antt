@@ -1,0 +1,6 @@
+use borrow.Author.Rules.{rules}
+use Rattle.step.proofs.operation.attempt.Goals as goal
+
+pub returns : goal.returns
+unfolding Rattle.qins.specs.Decode.decode
+returns c = simp c.attempt_fields.ensures
