@@ -30,42 +30,42 @@ pub extern "C" fn qins_is_instruction(w: u32) -> u32
 
 #[unsafe(no_mangle)]
 pub extern "C" fn crank_forward(r: Record, mem: &mut [u32], table: &[u32]) -> Turned
-    ensures { TurnPromise Direction.Forward (at_entry r mem table) result.refusal (at_exit result.state mem table) }
+    ensures { TurnPromise Direction.Forward (at_entry r mem.old table.now) result.refusal (at_exit result.state mem.new table.now) }
 {
     r.forward(mem, table)
 }
 
 #[unsafe(no_mangle)]
 pub extern "C" fn crank_back(r: Record, mem: &mut [u32], table: &[u32]) -> Turned
-    ensures { TurnPromise Direction.Back (at_entry r mem table) result.refusal (at_exit result.state mem table) }
+    ensures { TurnPromise Direction.Back (at_entry r mem.old table.now) result.refusal (at_exit result.state mem.new table.now) }
 {
     r.back(mem, table)
 }
 
 #[unsafe(no_mangle)]
 pub extern "C" fn crank_preview_forward(r: Record, mem: &[u32], table: &[u32]) -> Preview
-    ensures { PreviewPromise Direction.Forward (at_entry r mem table) result }
+    ensures { PreviewPromise Direction.Forward (at_entry r mem.now table.now) result }
 {
     r.preview_forward(mem, table)
 }
 
 #[unsafe(no_mangle)]
 pub extern "C" fn crank_preview_back(r: Record, mem: &[u32], table: &[u32]) -> Preview
-    ensures { PreviewPromise Direction.Back (at_entry r mem table) result }
+    ensures { PreviewPromise Direction.Back (at_entry r mem.now table.now) result }
 {
     r.preview_back(mem, table)
 }
 
 #[unsafe(no_mangle)]
 pub extern "C" fn crank_forward_batch(r: Record, n: u32, mem: &mut [u32], table: &[u32]) -> Batch
-    ensures { BatchPromise Direction.Forward n (at_entry r mem table) result.turns result.refusal (at_exit result.state mem table) }
+    ensures { BatchPromise Direction.Forward n (at_entry r mem.old table.now) result.turns result.refusal (at_exit result.state mem.new table.now) }
 {
     r.forward_batch(n, mem, table)
 }
 
 #[unsafe(no_mangle)]
 pub extern "C" fn crank_back_batch(r: Record, n: u32, mem: &mut [u32], table: &[u32]) -> Batch
-    ensures { BatchPromise Direction.Back n (at_entry r mem table) result.turns result.refusal (at_exit result.state mem table) }
+    ensures { BatchPromise Direction.Back n (at_entry r mem.old table.now) result.turns result.refusal (at_exit result.state mem.new table.now) }
 {
     r.back_batch(n, mem, table)
 }
@@ -78,14 +78,14 @@ pub extern "C" fn crank_samples(
     mem: &mut [u32],
     table: &[u32],
 ) -> Wheeled
-    ensures { WheelPromise given samples.now (at_entry r mem table) (counts_of result) (at_exit result.state mem table) }
+    ensures { WheelPromise given samples.now (at_entry r mem.old table.now) (counts_of result) (at_exit result.state mem.new table.now) }
 {
     wheel::follow(r, given, samples, mem, table)
 }
 
 #[unsafe(no_mangle)]
 pub extern "C" fn crank_load(file: &[u8], mem: &mut [u32], table: &mut [u32]) -> Loaded
-    ensures { LoadPromise file.now mem.old table.old result.refusal (at_exit result.state mem table) }
+    ensures { LoadPromise file.now mem.old table.old result.refusal (at_exit result.state mem.new table.new) }
 {
     image::load(file, mem, table)
 }
@@ -100,21 +100,21 @@ pub extern "C" fn crank_preface_length(file: &[u8]) -> usize
 
 #[unsafe(no_mangle)]
 pub extern "C" fn crank_save(r: Record, mem: &[u32], table: &[u32], out: &mut [u8]) -> u32
-    ensures { SavePromise (at_entry r mem table) out.old result out.new }
+    ensures { SavePromise (at_entry r mem.now table.now) out.old result out.new }
 {
     image::save(r, mem, table, out)
 }
 
 #[unsafe(no_mangle)]
 pub extern "C" fn crank_check(r: Record, mem: &[u32], table: &[u32]) -> Checked
-    ensures { result ≡ check_of (at_entry r mem table) }
+    ensures { result ≡ check_of (at_entry r mem.now table.now) }
 {
     links::check(r, mem, table)
 }
 
 #[unsafe(no_mangle)]
 pub extern "C" fn crank_check_node(r: Record, node: u32, mem: &[u32], table: &[u32]) -> u32
-    ensures { result ≡ check_node_of (at_entry r mem table) node }
+    ensures { result ≡ check_node_of (at_entry r mem.now table.now) node }
 {
     links::check_node(r, node, mem, table)
 }
@@ -127,7 +127,7 @@ pub extern "C" fn crank_make_table(
     table: &mut [u32],
     scratch: &mut [u32],
 ) -> Made
-    ensures { MakePromise (at_entry r mem table) limit scratch.old result.refusal result.cycles (at_exit result.state mem table) scratch.new }
+    ensures { MakePromise (at_entry r mem.old table.old) limit scratch.old result.refusal result.cycles (at_exit result.state mem.new table.new) scratch.new }
 {
     maker::make(r, limit, mem, table, scratch)
 }

@@ -55,7 +55,7 @@ fn fill(image: &[u8], m: usize, n: usize, mem: &mut [u32], table: &mut [u32])
 }
 
 pub fn load(file: &[u8], mem: &mut [u32], table: &mut [u32]) -> Loaded
-    ensures { LoadPromise file.now mem.old table.old result.refusal (at_exit result.state mem table) }
+    ensures { LoadPromise file.now mem.old table.old result.refusal (at_exit result.state mem.new table.new) }
 {
     let t = read_trailer(file);
     let refusal = load_refusal(t, file, mem, table);
@@ -100,7 +100,7 @@ fn write_image(r: Record, mem: &[u32], table: &[u32], out: &mut [u8])
 
 // Save's refusal, 0 for none; and the bounds of save's arguments, here where the types give them.
 fn save_refusal(r: Record, mem: &[u32], table: &[u32], out: &[u8]) -> u32
-    ensures { SaveDecided (at_entry r mem table) out.now result }
+    ensures { SaveDecided (at_entry r mem.now table.now) out.now result }
 {
     if r.has_bad_sizes(mem, table) {
         return 10;
@@ -112,7 +112,7 @@ fn save_refusal(r: Record, mem: &[u32], table: &[u32], out: &[u8]) -> u32
 }
 
 pub fn save(r: Record, mem: &[u32], table: &[u32], out: &mut [u8]) -> u32
-    ensures { SavePromise (at_entry r mem table) out.old result out.new }
+    ensures { SavePromise (at_entry r mem.now table.now) out.old result out.new }
 {
     let answer = save_refusal(r, mem, table, out);
     if answer != 0 {

@@ -33,7 +33,7 @@ fn first_bad_address(mem: &[u32], m: u32, k: u32) -> u32
 }
 
 pub fn check(r: Record, mem: &[u32], table: &[u32]) -> Checked
-    ensures { result ≡ check_of (at_entry r mem table) }
+    ensures { result ≡ check_of (at_entry r mem.now table.now) }
 {
     if r.has_bad_sizes(mem, table) {
         return Checked {
@@ -63,7 +63,7 @@ pub fn check(r: Record, mem: &[u32], table: &[u32]) -> Checked
 
 // The refusal of one node, 0 for none; the code words are not looked at.
 pub fn check_node(r: Record, node: u32, mem: &[u32], table: &[u32]) -> u32
-    ensures { result ≡ check_node_of (at_entry r mem table) node }
+    ensures { result ≡ check_node_of (at_entry r mem.now table.now) node }
 {
     if r.has_bad_sizes(mem, table) {
         return 10;

@@ -177,14 +177,14 @@ impl Record {
 
     // Refusal 10: sizes out of range, or lent memory or table too short.
     pub fn has_bad_sizes(self, mem: &[u32], table: &[u32]) -> bool
-        ensures { result ≡ wrong_sizes (at_entry self mem table) }
+        ensures { result ≡ wrong_sizes (at_entry self mem.now table.now) }
     {
         step::sizes::are_bad_sizes(self.status(), mem, table)
     }
 
     // The refusal of a turn at the last position.
     fn last_refusal(self, mem: &[u32], table: &[u32]) -> u32
-        ensures { result ≡ last_refusal (at_entry self mem table) }
+        ensures { result ≡ last_refusal (at_entry self mem.now table.now) }
     {
         if self.has_bad_sizes(mem, table) {
             return 10;
@@ -205,7 +205,7 @@ impl Record {
         shown: &[u32],
         table: &[u32],
     ) -> Ran
-        ensures { Runs live d n (at_entry self mem table) shown.now result mem.new }
+        ensures { Runs live d n (at_entry self mem.old table.now) shown.now result mem.new }
     {
         let mut regs = self.regs;
         let mut at = self.status();
@@ -230,7 +230,7 @@ impl Record {
     }
 
     fn batch(self, d: Direction, n: u32, mem: &mut [u32], table: &[u32]) -> Batch
-        ensures { BatchPromise d n (at_entry self mem table) result.turns result.refusal (at_exit result.state mem table) }
+        ensures { BatchPromise d n (at_entry self mem.old table.now) result.turns result.refusal (at_exit result.state mem.new table.now) }
     {
         let none = [0; 0];
         let p = self.position;
@@ -247,7 +247,7 @@ impl Record {
 
     // One turn: a run of one, not by way of a batch, whose record would be one copy more.
     fn turn(self, d: Direction, mem: &mut [u32], table: &[u32]) -> Turned
-        ensures { TurnPromise d (at_entry self mem table) result.refusal (at_exit result.state mem table) }
+        ensures { TurnPromise d (at_entry self mem.old table.now) result.refusal (at_exit result.state mem.new table.now) }
     {
         let none = [0; 0];
         let p = self.position;
@@ -263,7 +263,7 @@ impl Record {
 
     // One turn, shown: a run that is not live.
     fn preview(self, d: Direction, mem: &[u32], table: &[u32]) -> Preview
-        ensures { PreviewPromise d (at_entry self mem table) result }
+        ensures { PreviewPromise d (at_entry self mem.now table.now) result }
     {
         let mut none = [0; 0];
         let p = self.position;
@@ -278,42 +278,42 @@ impl Record {
 
     // One turn forward.
     pub fn forward(self, mem: &mut [u32], table: &[u32]) -> Turned
-        ensures { TurnPromise Direction.Forward (at_entry self mem table) result.refusal (at_exit result.state mem table) }
+        ensures { TurnPromise Direction.Forward (at_entry self mem.old table.now) result.refusal (at_exit result.state mem.new table.now) }
     {
         self.turn(Direction::Forward, mem, table)
     }
 
     // One turn back.
     pub fn back(self, mem: &mut [u32], table: &[u32]) -> Turned
-        ensures { TurnPromise Direction.Back (at_entry self mem table) result.refusal (at_exit result.state mem table) }
+        ensures { TurnPromise Direction.Back (at_entry self mem.old table.now) result.refusal (at_exit result.state mem.new table.now) }
     {
         self.turn(Direction::Back, mem, table)
     }
 
     // The turn forward, shown and not made.
     pub fn preview_forward(self, mem: &[u32], table: &[u32]) -> Preview
-        ensures { PreviewPromise Direction.Forward (at_entry self mem table) result }
+        ensures { PreviewPromise Direction.Forward (at_entry self mem.now table.now) result }
     {
         self.preview(Direction::Forward, mem, table)
     }
 
     // The turn back, shown and not made.
     pub fn preview_back(self, mem: &[u32], table: &[u32]) -> Preview
-        ensures { PreviewPromise Direction.Back (at_entry self mem table) result }
+        ensures { PreviewPromise Direction.Back (at_entry self mem.now table.now) result }
     {
         self.preview(Direction::Back, mem, table)
     }
 
     // n turns forward, or those before the first refusal.
     pub fn forward_batch(self, n: u32, mem: &mut [u32], table: &[u32]) -> Batch
-        ensures { BatchPromise Direction.Forward n (at_entry self mem table) result.turns result.refusal (at_exit result.state mem table) }
+        ensures { BatchPromise Direction.Forward n (at_entry self mem.old table.now) result.turns result.refusal (at_exit result.state mem.new table.now) }
     {
         self.batch(Direction::Forward, n, mem, table)
     }
 
     // n turns back, likewise.
     pub fn back_batch(self, n: u32, mem: &mut [u32], table: &[u32]) -> Batch
-        ensures { BatchPromise Direction.Back n (at_entry self mem table) result.turns result.refusal (at_exit result.state mem table) }
+        ensures { BatchPromise Direction.Back n (at_entry self mem.old table.now) result.turns result.refusal (at_exit result.state mem.new table.now) }
     {
         self.batch(Direction::Back, n, mem, table)
     }

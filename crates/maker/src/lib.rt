@@ -76,7 +76,7 @@ impl Made {
 
 // pc is at start, there is no table yet and no wait, and what is lent is long enough.
 fn can_begin(r: Record, mem: &[u32], table: &[u32], scratch: &[u32]) -> bool
-    ensures { result ≡ can_begin (at_entry r mem table) scratch.now }
+    ensures { result ≡ can_begin (at_entry r mem.now table.now) scratch.now }
 {
     let regs = r.regs;
     let pc = word_of(&regs, 0);
@@ -87,7 +87,7 @@ fn can_begin(r: Record, mem: &[u32], table: &[u32], scratch: &[u32]) -> bool
 
 // 10 or 22, else 0.
 fn refusal_of(r: Record, mem: &[u32], table: &[u32], scratch: &[u32]) -> u32
-    ensures { result ≡ refusal_of (at_entry r mem table) scratch.now }
+    ensures { result ≡ refusal_of (at_entry r mem.now table.now) scratch.now }
 {
     if r.has_bad_sizes(mem, table) {
         return 10;
@@ -149,7 +149,7 @@ fn at_node_one(r: Record, n: u32) -> Record
 
 // Makes the table of the program in mem, in at most limit cycles walked.
 pub fn make(r: Record, limit: u32, mem: &mut [u32], table: &mut [u32], scratch: &mut [u32]) -> Made
-    ensures { MakePromise (at_entry r mem table) limit scratch.old result.refusal result.cycles (at_exit result.state mem table) scratch.new }
+    ensures { MakePromise (at_entry r mem.old table.old) limit scratch.old result.refusal result.cycles (at_exit result.state mem.new table.new) scratch.new }
 {
     let refusal = refusal_of(r, mem, table, scratch);
     if refusal != 0 {

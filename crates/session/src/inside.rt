@@ -56,7 +56,7 @@ pub(crate) struct AfterMake {
 // ---- turns
 
 pub(crate) fn forward(asked: Asked, mem: &mut [u32], table: &[u32]) -> AfterTurn
-    ensures { TurnPromise Direction.Forward (at_entry asked.bench.state mem table) result.answer (at_exit result.bench.state mem table) }
+    ensures { TurnPromise Direction.Forward (at_entry asked.bench.state mem.old table.now) result.answer (at_exit result.bench.state mem.new table.now) }
 {
     let b = asked.bench;
     let r = b.state;
@@ -70,7 +70,7 @@ pub(crate) fn forward(asked: Asked, mem: &mut [u32], table: &[u32]) -> AfterTurn
 }
 
 pub(crate) fn back(asked: Asked, mem: &mut [u32], table: &[u32]) -> AfterTurn
-    ensures { TurnPromise Direction.Back (at_entry asked.bench.state mem table) result.answer (at_exit result.bench.state mem table) }
+    ensures { TurnPromise Direction.Back (at_entry asked.bench.state mem.old table.now) result.answer (at_exit result.bench.state mem.new table.now) }
 {
     let b = asked.bench;
     let r = b.state;
@@ -86,7 +86,7 @@ pub(crate) fn back(asked: Asked, mem: &mut [u32], table: &[u32]) -> AfterTurn
 // ---- batches
 
 pub(crate) fn forward_batch(asked: Asked, n: u32, mem: &mut [u32], table: &[u32]) -> AfterBatch
-    ensures { BatchPromise Direction.Forward n (at_entry asked.bench.state mem table) result.answer.turns result.answer.refusal (at_exit result.bench.state mem table) }
+    ensures { BatchPromise Direction.Forward n (at_entry asked.bench.state mem.old table.now) result.answer.turns result.answer.refusal (at_exit result.bench.state mem.new table.now) }
 {
     let b = asked.bench;
     let r = b.state;
@@ -101,7 +101,7 @@ pub(crate) fn forward_batch(asked: Asked, n: u32, mem: &mut [u32], table: &[u32]
 }
 
 pub(crate) fn back_batch(asked: Asked, n: u32, mem: &mut [u32], table: &[u32]) -> AfterBatch
-    ensures { BatchPromise Direction.Back n (at_entry asked.bench.state mem table) result.answer.turns result.answer.refusal (at_exit result.bench.state mem table) }
+    ensures { BatchPromise Direction.Back n (at_entry asked.bench.state mem.old table.now) result.answer.turns result.answer.refusal (at_exit result.bench.state mem.new table.now) }
 {
     let b = asked.bench;
     let r = b.state;
@@ -124,7 +124,7 @@ pub(crate) fn samples(
     mem: &mut [u32],
     table: &[u32],
 ) -> AfterSamples
-    ensures { WheelPromise given samples.now (at_entry asked.bench.state mem table) (counts_in result.answer) (at_exit result.bench.state mem table) }
+    ensures { WheelPromise given samples.now (at_entry asked.bench.state mem.old table.now) (counts_in result.answer) (at_exit result.bench.state mem.new table.now) }
 {
     let b = asked.bench;
     let t = wheel::follow(b.state, given, samples, mem, table);
@@ -143,7 +143,7 @@ pub(crate) fn samples(
 // ---- load and make
 
 pub(crate) fn load(asked: Asked, file: &[u8], mem: &mut [u32], table: &mut [u32]) -> AfterLoad
-    ensures { BenchLoadPromise file.now (at_entry asked.bench.state mem table) result.answer (at_exit result.bench.state mem table) }
+    ensures { BenchLoadPromise file.now (at_entry asked.bench.state mem.old table.old) result.answer (at_exit result.bench.state mem.new table.new) }
 {
     let b = asked.bench;
     let answer = image::load(file, mem, table);
@@ -162,7 +162,7 @@ pub(crate) fn make_table(
     table: &mut [u32],
     scratch: &mut [u32],
 ) -> AfterMake
-    ensures { MakePromise (at_entry asked.bench.state mem table) limit scratch.old result.answer.refusal result.answer.cycles (at_exit result.bench.state mem table) scratch.new }
+    ensures { MakePromise (at_entry asked.bench.state mem.old table.old) limit scratch.old result.answer.refusal result.answer.cycles (at_exit result.bench.state mem.new table.new) scratch.new }
 {
     let b = asked.bench;
     let t = maker::make(b.state, limit, mem, table, scratch);
@@ -178,7 +178,7 @@ pub(crate) fn make_table(
 // ---- calls that only look
 
 pub(crate) fn preview_forward(asked: Asked, mem: &[u32], table: &[u32]) -> Preview
-    ensures { PreviewPromise Direction.Forward (at_entry asked.bench.state mem table) result }
+    ensures { PreviewPromise Direction.Forward (at_entry asked.bench.state mem.now table.now) result }
 {
     let b = asked.bench;
     let r = b.state;
@@ -186,7 +186,7 @@ pub(crate) fn preview_forward(asked: Asked, mem: &[u32], table: &[u32]) -> Previ
 }
 
 pub(crate) fn preview_back(asked: Asked, mem: &[u32], table: &[u32]) -> Preview
-    ensures { PreviewPromise Direction.Back (at_entry asked.bench.state mem table) result }
+    ensures { PreviewPromise Direction.Back (at_entry asked.bench.state mem.now table.now) result }
 {
     let b = asked.bench;
     let r = b.state;
@@ -194,21 +194,21 @@ pub(crate) fn preview_back(asked: Asked, mem: &[u32], table: &[u32]) -> Preview
 }
 
 pub(crate) fn save(asked: Asked, mem: &[u32], table: &[u32], out: &mut [u8]) -> u32
-    ensures { SavePromise (at_entry asked.bench.state mem table) out.old result out.new }
+    ensures { SavePromise (at_entry asked.bench.state mem.now table.now) out.old result out.new }
 {
     let b = asked.bench;
     image::save(b.state, mem, table, out)
 }
 
 pub(crate) fn check(asked: Asked, mem: &[u32], table: &[u32]) -> Checked
-    ensures { result ≡ check_of (at_entry asked.bench.state mem table) }
+    ensures { result ≡ check_of (at_entry asked.bench.state mem.now table.now) }
 {
     let b = asked.bench;
     links::check(b.state, mem, table)
 }
 
 pub(crate) fn check_node(asked: Asked, node: u32, mem: &[u32], table: &[u32]) -> u32
-    ensures { result ≡ check_node_of (at_entry asked.bench.state mem table) node }
+    ensures { result ≡ check_node_of (at_entry asked.bench.state mem.now table.now) node }
 {
     let b = asked.bench;
     links::check_node(b.state, node, mem, table)

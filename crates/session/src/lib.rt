@@ -58,7 +58,7 @@ pub struct Tabled {
 // One turn forward; the answer is its refusal, 0 for none.
 #[unsafe(no_mangle)]
 pub extern "C" fn bench_forward(b: &mut Bench, mem: &mut [u32], table: &[u32]) -> u32
-    ensures { TurnPromise Direction.Forward (bench_at_entry b mem table) result (bench_at_exit b mem table) }
+    ensures { TurnPromise Direction.Forward (bench_at_entry b.old mem.old table.now) result (bench_at_exit b.new mem.new table.now) }
 {
     let bench = *b;
     let asked = Asked { bench };
@@ -70,7 +70,7 @@ pub extern "C" fn bench_forward(b: &mut Bench, mem: &mut [u32], table: &[u32]) -
 // One turn back.
 #[unsafe(no_mangle)]
 pub extern "C" fn bench_back(b: &mut Bench, mem: &mut [u32], table: &[u32]) -> u32
-    ensures { TurnPromise Direction.Back (bench_at_entry b mem table) result (bench_at_exit b mem table) }
+    ensures { TurnPromise Direction.Back (bench_at_entry b.old mem.old table.now) result (bench_at_exit b.new mem.new table.now) }
 {
     let bench = *b;
     let asked = Asked { bench };
@@ -87,7 +87,7 @@ pub extern "C" fn bench_forward_batch(
     mem: &mut [u32],
     table: &[u32],
 ) -> Cranked
-    ensures { BatchPromise Direction.Forward n (bench_at_entry b mem table) result.turns result.refusal (bench_at_exit b mem table) }
+    ensures { BatchPromise Direction.Forward n (bench_at_entry b.old mem.old table.now) result.turns result.refusal (bench_at_exit b.new mem.new table.now) }
 {
     let bench = *b;
     let asked = Asked { bench };
@@ -99,7 +99,7 @@ pub extern "C" fn bench_forward_batch(
 // n turns back, likewise.
 #[unsafe(no_mangle)]
 pub extern "C" fn bench_back_batch(b: &mut Bench, n: u32, mem: &mut [u32], table: &[u32]) -> Cranked
-    ensures { BatchPromise Direction.Back n (bench_at_entry b mem table) result.turns result.refusal (bench_at_exit b mem table) }
+    ensures { BatchPromise Direction.Back n (bench_at_entry b.old mem.old table.now) result.turns result.refusal (bench_at_exit b.new mem.new table.now) }
 {
     let bench = *b;
     let asked = Asked { bench };
@@ -117,7 +117,7 @@ pub extern "C" fn bench_samples(
     mem: &mut [u32],
     table: &[u32],
 ) -> Sampled
-    ensures { WheelPromise given samples.now (bench_at_entry b mem table) (counts_in result) (bench_at_exit b mem table) }
+    ensures { WheelPromise given samples.now (bench_at_entry b.old mem.old table.now) (counts_in result) (bench_at_exit b.new mem.new table.now) }
 {
     let bench = *b;
     let asked = Asked { bench };
@@ -134,7 +134,7 @@ pub extern "C" fn bench_load(
     mem: &mut [u32],
     table: &mut [u32],
 ) -> Loaded
-    ensures { BenchLoadPromise file.now (bench_at_entry b mem table) result (bench_at_exit b mem table) }
+    ensures { BenchLoadPromise file.now (bench_at_entry b.old mem.old table.old) result (bench_at_exit b.new mem.new table.new) }
 {
     let bench = *b;
     let asked = Asked { bench };
@@ -152,7 +152,7 @@ pub extern "C" fn bench_make_table(
     table: &mut [u32],
     scratch: &mut [u32],
 ) -> Tabled
-    ensures { MakePromise (bench_at_entry b mem table) limit scratch.old result.refusal result.cycles (bench_at_exit b mem table) scratch.new }
+    ensures { MakePromise (bench_at_entry b.old mem.old table.old) limit scratch.old result.refusal result.cycles (bench_at_exit b.new mem.new table.new) scratch.new }
 {
     let bench = *b;
     let asked = Asked { bench };
@@ -166,7 +166,7 @@ pub extern "C" fn bench_make_table(
 // The turn forward, shown and not made.
 #[unsafe(no_mangle)]
 pub extern "C" fn bench_preview_forward(b: &Bench, mem: &[u32], table: &[u32]) -> Preview
-    ensures { PreviewPromise Direction.Forward (bench_at_entry b mem table) result }
+    ensures { PreviewPromise Direction.Forward (bench_at_entry b.now mem.now table.now) result }
 {
     let bench = *b;
     let asked = Asked { bench };
@@ -177,7 +177,7 @@ pub extern "C" fn bench_preview_forward(b: &Bench, mem: &[u32], table: &[u32]) -
 // The turn back, likewise.
 #[unsafe(no_mangle)]
 pub extern "C" fn bench_preview_back(b: &Bench, mem: &[u32], table: &[u32]) -> Preview
-    ensures { PreviewPromise Direction.Back (bench_at_entry b mem table) result }
+    ensures { PreviewPromise Direction.Back (bench_at_entry b.now mem.now table.now) result }
 {
     let bench = *b;
     let asked = Asked { bench };
@@ -188,7 +188,7 @@ pub extern "C" fn bench_preview_back(b: &Bench, mem: &[u32], table: &[u32]) -> P
 // Writes the image to the front of out; the answer is the refusal.
 #[unsafe(no_mangle)]
 pub extern "C" fn bench_save(b: &Bench, mem: &[u32], table: &[u32], out: &mut [u8]) -> u32
-    ensures { SavePromise (bench_at_entry b mem table) out.old result out.new }
+    ensures { SavePromise (bench_at_entry b.now mem.now table.now) out.old result out.new }
 {
     let bench = *b;
     let asked = Asked { bench };
@@ -199,7 +199,7 @@ pub extern "C" fn bench_save(b: &Bench, mem: &[u32], table: &[u32], out: &mut [u
 // The check of the code words and of all links.
 #[unsafe(no_mangle)]
 pub extern "C" fn bench_check(b: &Bench, mem: &[u32], table: &[u32]) -> Checked
-    ensures { result ≡ check_of (bench_at_entry b mem table) }
+    ensures { result ≡ check_of (bench_at_entry b.now mem.now table.now) }
 {
     let bench = *b;
     let asked = Asked { bench };
@@ -210,7 +210,7 @@ pub extern "C" fn bench_check(b: &Bench, mem: &[u32], table: &[u32]) -> Checked
 // The check of one node's links.
 #[unsafe(no_mangle)]
 pub extern "C" fn bench_check_node(b: &Bench, node: u32, mem: &[u32], table: &[u32]) -> u32
-    ensures { result ≡ check_node_of (bench_at_entry b mem table) node }
+    ensures { result ≡ check_node_of (bench_at_entry b.now mem.now table.now) node }
 {
     let bench = *b;
     let asked = Asked { bench };

@@ -71,7 +71,7 @@ fn count(k: u32, s: u32, t: Turned, w: Wheeled) -> Wheeled
 // Counted in each branch by itself: with one count after all three, a turn's record is copied once more.
 fn take(s: u32, w: Wheeled, mem: &mut [u32], table: &[u32]) -> Wheeled
     requires { w.forward + w.back + w.refused + 1 < 2 ^ 64 }
-    ensures { wheel_at (counts_of result) (at_exit result.state mem table) ≡ taken s (wheel_at (counts_of w) (at_entry w.state mem table)) }
+    ensures { wheel_at (counts_of result) (at_exit result.state mem.new table.now) ≡ taken s (wheel_at (counts_of w) (at_entry w.state mem.old table.now)) }
 {
     let n = fault_at(w.last, s);
     if n != 0 {
@@ -98,7 +98,7 @@ fn take(s: u32, w: Wheeled, mem: &mut [u32], table: &[u32]) -> Wheeled
 
 // Turns the machine as the samples say, up to the first that ends the call.
 pub fn follow(r: Record, given: u8, samples: &[u8], mem: &mut [u32], table: &[u32]) -> Wheeled
-    ensures { WheelPromise given samples.now (at_entry r mem table) (counts_of result) (at_exit result.state mem table) }
+    ensures { WheelPromise given samples.now (at_entry r mem.old table.now) (counts_of result) (at_exit result.state mem.new table.now) }
 {
     let last = wide(given);
     let mut w = Wheeled {

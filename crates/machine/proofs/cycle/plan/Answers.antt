@@ -1,0 +1,10 @@
+use mathlib.Core.Path.{ap, ◌∙◌}
+use lib.ListN.{length, length-set}
+use Rattle.machine.proofs.InPlace.{plans}
+use borrow.Author.Rules.{rules}
+use Rattle.machine.proofs.cycle.plan.Goals as goal
+
+pub returns : goal.returns
+returns c =
+    plans c.look-old.ensures c.look.ensures c.from_pc-pc.ensures c.put.ensures
+    c.execute-a.ensures c.next_pc-next.ensures c.judge.ensures

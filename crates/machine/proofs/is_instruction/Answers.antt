@@ -1,0 +1,9 @@
+use mathlib.Core.Path.{ap}
+use mathlib.Core.Bool.{not}
+use borrow.Author.Rules.{rules}
+use Rattle.machine.proofs.Instruction.{told_by_13}
+use Rattle.machine.proofs.is_instruction.Goals as goal
+
+pub returns : goal.returns
+returns c =
+    rw (c.forward-t.ensures.refusal, c.with_status-r.ensures, c.sized.ensures, c.zero.ensures) (ap not (told_by_13 _))
