@@ -38,3 +38,7 @@ behind p q out l part a n h e f =
     let m : mid_of a (length l - a) l ≡ drop a out = all_left a l ∙ ap (drop a) e ∙ drop_at p (drop a out) a h in
     rw (none_left a l, f, m, e, take_at p (drop a out) a h, drop-drop n a out, append-nil)
     (sym (append_assoc p q (drop (a + n) out)))
+
+-- q of k bytes put from x on is q put at the front of the part from x on
+pub put_front : (x k : ℕ) (l q : List ℕ) → put_mid x (x + k - x) l q ≡ put_mid x (length l - x) l (q ++ drop k (mid_of x (length l - x) l))
+put_front x k l q = let e : x + k - x ≡ k = omega arith in rw (e, none_left x l, all_left x l, append-nil)

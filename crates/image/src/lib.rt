@@ -1,5 +1,6 @@
 // Machine images: load, preface and save.
 #![tactic(auto)]
+
 ghost use Rattle.std.specs.Prelude.{◌≡◌, ◌++◌, ◌*◌, ◌^◌, ◌<◌, ◌≤◌, length, drop};
 ghost use Rattle.step.specs.Table.{table_words};
 ghost use Rattle.machine.specs.Lent.{at_entry, at_exit};

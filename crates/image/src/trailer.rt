@@ -161,5 +161,5 @@ pub(crate) fn write_trailer(r: Record, out: &mut [u8])
     let last = NEWEST.last;
     let end = 4 * word_count(NEWEST);
     write_fields(r, out);
-    bytes::copy(&last, &mut out[end..]);
+    out[end..end + LAST].copy_from_slice(&last);
 }
