@@ -1,0 +1,7 @@
+use Rattle.maker.specs.Walk.{pair}
+use borrow.Author.Rules.{rules}
+use Rattle.maker.proofs.draw.write_pair.Goals as goal
+
+pub returns : goal.returns
+unfolding pair
+returns c = rw (c.write-2.ensures, c.write.ensures)

@@ -1,0 +1,25 @@
+use mathlib.Core.Path.{sym, ap, ◌∙◌}
+use mathlib.Core.Bool.{not}
+use borrow.Author.Tests.{le-leb, lt-leb}
+use Rattle.maker.specs.Parts.{first_fiq_refusal_of}
+use Rattle.word.specs.Refusal.{refuse}
+use borrow.Author.Rules.{rules}
+use Rattle.maker.proofs.walk.first_fiq_refusal.Goals as goal
+
+pub returns-then-is_before_start : goal.returns-then-is_before_start
+unfolding first_fiq_refusal_of refuse
+returns-then-is_before_start c = rw (sym c.is_before_start.ensures ∙ c.if-is_before_start.true)
+
+pub returns-then-limit-at : goal.returns-then-limit-at
+unfolding first_fiq_refusal_of refuse
+returns-then-limit-at c = rw (sym c.is_before_start.ensures ∙ c.if-is_before_start.false, le-leb _ _ c.if-limit-at.true)
+
+pub returns-then-not-holds : goal.returns-then-not-holds
+unfolding first_fiq_refusal_of refuse
+returns-then-not-holds c =
+    rw (sym c.is_before_start.ensures ∙ c.if-is_before_start.false, lt-leb _ _ c.if-limit-at.false, ap not (sym c.holds.ensures) ∙ c.if-not-holds.true-raw)
+
+pub returns : goal.returns
+unfolding first_fiq_refusal_of refuse
+returns c =
+    rw (sym c.is_before_start.ensures ∙ c.if-is_before_start.false, lt-leb _ _ c.if-limit-at.false, ap not (sym c.holds.ensures) ∙ c.if-not-holds.false-raw)
