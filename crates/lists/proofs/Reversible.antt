@@ -72,7 +72,7 @@ module _ (S : Type 0) (Ok : Direction → S → Type 0) (next : Direction → S 
     pub then_run : {f b : ℕ} {x y z : S} (d : Direction) (k : ℕ) → Tour f b x y → Good y → Runs d k y z → Tour (by_way d k 0 + f) (by_way d 0 k + b) x z
     then_run {f} {b} {x} Forward zero t g r = subst (Tour (0 + f) (0 + b) x) r (tour_at (omega arith) (omega arith) t)
     then_run {f} {b} {x} Back zero t g r = subst (Tour (0 + f) (0 + b) x) r (tour_at (omega arith) (omega arith) t)
-    then_run {y = y} Forward (suc k) t g r =
-        tour_at (omega arith) (omega arith) (then_run Forward k (turn Forward t g r.0) (law Forward y g r.0).2 r.1)
-    then_run {y = y} Back (suc k) t g r =
-        tour_at (omega arith) (omega arith) (then_run Back k (turn Back t g r.0) (law Back y g r.0).2 r.1)
+    then_run {f = f} {b = b} {x = x} {y = y} {z = z} Forward (suc k) t g r =
+        tour_at (omega arith) (omega arith) (then_run {f = by_way Forward (suc f) f} {b = by_way Forward b (suc b)} {x = x} {y = next Forward y} {z = z} Forward k (turn Forward t g r.0) (law Forward y g r.0).2 r.1)
+    then_run {f = f} {b = b} {x = x} {y = y} {z = z} Back (suc k) t g r =
+        tour_at (omega arith) (omega arith) (then_run {f = by_way Back (suc f) f} {b = by_way Back b (suc b)} {x = x} {y = next Back y} {z = z} Back k (turn Back t g r.0) (law Back y g r.0).2 r.1)
