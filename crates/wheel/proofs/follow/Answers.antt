@@ -15,7 +15,7 @@ returns-then-last-gt3 c =
     let x = machine_of g.r g.mem.now g.table.now in
     refused g.samples.now x c.wide-last.ensures
     (given_bounds x (search rules) (λ a. search rules) c.type_inv.mem
-    (record { sfits = c.well_formed.0.1.1.1.1.1.1.1.1.0.1 })) c.if-last-gt3.true
+    (search rules)) c.if-last-gt3.true
 
 pub loop-i-init : goal.loop-i-init
 loop-i-init c =
@@ -23,7 +23,7 @@ loop-i-init c =
     let x = machine_of g.r g.mem.now g.table.now in
     begin g.samples.now x c.wide-last.ensures
     (given_bounds x (search rules) (λ a. search rules) c.type_inv.mem
-    (record { sfits = c.well_formed.0.1.1.1.1.1.1.1.1.0.1 })) c.if-last-gt3.false c.well_formed.1.1.0.0
+    (search rules)) c.if-last-gt3.false (search rules)
 
 pub returns-then-w-ne0 : goal.returns-then-w-ne0
 returns-then-w-ne0 c = stopped c.loop-i.invariant c.loop-i-test.true c.wide.ensures c.take-w.ensures c.if-w-ne0.true

@@ -14,7 +14,7 @@ use Rattle.machine.proofs.Record.preview.Goals as goal
 pub returns : goal.returns
 returns c =
     let g = c.args in
-    let f : SFits w64 g.self.position = record { sfits = c.struct_told-1.given.1.1.1.1.1.1.0.1 } in
+    let f : SFits w64 g.self.position = search rules in
     let x = machine_of g.self g.mem.now g.table.now in
     record {
       answer =

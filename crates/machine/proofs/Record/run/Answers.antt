@@ -13,7 +13,7 @@ use Rattle.machine.proofs.Record.run.Goals as goal
 pub loop-i-init : goal.loop-i-init
 loop-i-init c =
     let g = c.args in
-    let f : SFits w64 g.self.position = record { sfits = c.type_inv.self.1.1.1.1.1.1.0.1 } in
+    let f : SFits w64 g.self.position = search rules in
     let x = machine_of g.self g.mem.now g.table.now in
     running_starts {x = x} c.status-at.ensures f c.limit-most.ensures
     (given_bounds x (search rules) (λ a. search rules) c.type_inv.mem f)
