@@ -1,6 +1,23 @@
-// The crank program. A Rattle program can't set its exit status, so the one that `run` answers is lost here; the
-// program that Cargo builds around `crank_program` gives it.
+// The crank program. The exit status that `run` answers is lost here; the program that Cargo builds around
+// `crank_program` gives it.
 #![tactic(auto)]
-fn main() {
-    program::run(os::arg_count());
+
+use std::env::{Env, FillError};
+
+// How many words the command line has, the program's own name among them. No word is copied, so it may be any.
+fn count_words(rt: &impl Env) -> usize {
+    for i in 0..usize::MAX {
+        match rt.arg(i, &mut []) {
+            Err(FillError::NotPresent) => return i,
+            _ => {}
+        }
+    }
+    usize::MAX
+}
+
+fn main(rt: HostRuntime) {
+    let mut input = rt.stdin();
+    let mut output = rt.stdout();
+    let mut errors = rt.stderr();
+    program::run(count_words(&rt), &mut input, &mut output, &mut errors);
 }

@@ -1,12 +1,15 @@
 // What the crank program does: it reads an image from standard input, turns forward until refused or LIMIT
 // turns, and prints the turns, the refusal and the record. What it reads, the arrays that it lends and what
-// it prints are tested; what is done with them is proved.
+// it prints are tested; what is done with them is proved. The reader and the writers are its caller's: a main
+// passes the process's own.
 #![tactic(auto)]
-ghost use Rattle.std.specs.Prelude.{◌≡◌};
+
+ghost use Rattle.std.specs.Prelude.{◌≡◌, ◌≤◌, length};
 ghost use Rattle.program.specs.Program.{no_turns, ProgramPromise, status_of, Ran, Exit};
 
-use libc::{STDERR_FILENO, STDIN_FILENO, STDOUT_FILENO};
 use machine::{Batch, Record};
+use std::io;
+use std::io::{Read, Write};
 
 // The most turns that are made.
 const LIMIT: u32 = 1000000;
@@ -54,55 +57,70 @@ fn turn_image(file: &[u8], mem: &mut [u32], table: &mut [u32]) -> Outcome
     end_with(refusal, r.forward_batch(LIMIT, mem, table))
 }
 
-fn print_number(x: u32) -> bool {
-    io::print_decimal(STDOUT_FILENO, x as u64)
+// Reads until buf is full or the input ends, and answers how many bytes. A read that fails counts as the end.
+fn read_full(input: &mut impl Read, buf: &mut [u8]) -> usize
+    ensures { result ≤ length buf.new }
+{
+    let mut done = 0;
+    while done < buf.len() {
+        let n = input.read(&mut buf[done..]).unwrap_or(0);
+        if n == 0 {
+            break;
+        }
+        done += n;
+    }
+    done
+}
+
+fn print_number(output: &mut impl Write, x: u32) -> io::Result<()> {
+    write!(output, "{x}")
 }
 
 // A name and a number.
-fn print_named(name: &[u8], x: u32) -> bool {
-    io::write_all(STDOUT_FILENO, name) && print_number(x)
+fn print_named(output: &mut impl Write, name: &[u8], x: u32) -> io::Result<()> {
+    output.write_all(name)?;
+    print_number(output, x)
 }
 
-fn print_line_end() -> bool {
-    io::write_all(STDOUT_FILENO, b"\n")
+fn print_line_end(output: &mut impl Write) -> io::Result<()> {
+    output.write_all(b"\n")
 }
 
 // Register i, behind a blank but for the first.
-fn print_register(i: usize, x: u32) -> bool {
+fn print_register(output: &mut impl Write, i: usize, x: u32) -> io::Result<()> {
     if i == 0 {
-        return print_number(x);
+        return print_number(output, x);
     }
-    print_named(b" ", x)
+    print_named(output, b" ", x)
 }
 
-fn print_regs(r: Record) -> bool {
+fn print_regs(output: &mut impl Write, r: Record) -> io::Result<()> {
     let regs = r.regs;
     for i in 0..16 {
-        if !print_register(i, regs[i]) {
-            return false;
-        }
+        print_register(output, i, regs[i])?;
     }
-    print_line_end()
+    print_line_end(output)
 }
 
-fn print_answer(b: Batch) -> bool {
+fn print_answer(output: &mut impl Write, b: Batch) -> io::Result<()> {
     let r = b.state;
-    print_named(b"turns ", b.turns)
-        && print_named(b" refusal ", b.refusal)
-        && print_line_end()
-        && print_regs(r)
-        && print_named(b"node ", r.qifv)
-        && print_named(b" wait ", r.qifw)
-        && print_line_end()
+    print_named(output, b"turns ", b.turns)?;
+    print_named(output, b" refusal ", b.refusal)?;
+    print_line_end(output)?;
+    print_regs(output, r)?;
+    print_named(output, b"node ", r.qifv)?;
+    print_named(output, b" wait ", r.qifw)?;
+    print_line_end(output)
 }
 
-fn print_outcome(o: Outcome) -> bool {
+fn print_outcome(output: &mut impl Write, o: Outcome) -> io::Result<()> {
     let refusal = o.refusal;
     let b = o.batch;
     if refusal != 0 {
-        return print_named(b"refusal ", refusal) && print_line_end();
+        print_named(output, b"refusal ", refusal)?;
+        return print_line_end(output);
     }
-    print_answer(b)
+    print_answer(output, b)
 }
 
 fn status(refusal: u32, written: bool) -> u32
@@ -117,47 +135,42 @@ fn status(refusal: u32, written: bool) -> u32
     0
 }
 
-fn refuse_arguments() -> u32
+fn refuse_arguments(errors: &mut impl Write) -> u32
     ensures { result ≡ 2 }
 {
-    io::write_all(
-        STDERR_FILENO,
-        b"crank: takes no arguments; give it an image by crank < IMAGE\n",
-    );
+    let _ = errors.write_all(b"crank: takes no arguments; give it an image by crank < IMAGE\n");
     2
 }
 
 // Reads, turns and prints.
-fn turn_input() -> u32
+fn turn_input(input: &mut impl Read, output: &mut impl Write, errors: &mut impl Write) -> u32
     ensures { Ran result }
 {
     let mut file = [0u8; ROOM];
     let mut mem = [0u32; WORDS];
     let mut table = [0u32; LINKS];
-    let n = io::read_full(STDIN_FILENO, &mut file);
+    let n = read_full(input, &mut file);
     let outcome = turn_image(&file[..n], &mut mem, &mut table);
     let refusal = outcome.refusal;
-    let is_written = print_outcome(outcome);
+    let is_written = print_outcome(output, outcome).is_ok();
     if !is_written {
-        io::write_all(STDERR_FILENO, b"crank: standard output can't be written\n");
+        let _ = errors.write_all(b"crank: standard output can't be written\n");
     }
     status(refusal, is_written)
 }
 
-// The program, given the number of words of its command line, its own name among them. Answers the exit status.
-pub fn run(words: usize) -> u32
+// The program, given the number of words of its command line, its own name among them, and its standard input,
+// output and error. Answers the exit status.
+pub fn run(
+    words: usize,
+    input: &mut impl Read,
+    output: &mut impl Write,
+    errors: &mut impl Write,
+) -> u32
     ensures { Exit words result }
 {
     if words > 1 {
-        return refuse_arguments();
+        return refuse_arguments(errors);
     }
-    turn_input()
-}
-
-// The program for a main that can set an exit status, which a Rattle main can't.
-#[unsafe(no_mangle)]
-pub extern "C" fn crank_program(words: usize) -> u32
-    ensures { Exit words result }
-{
-    run(words)
+    turn_input(input, output, errors)
 }
