@@ -7,7 +7,7 @@ use std::path::{Path, PathBuf};
 const CALLS: [&str; 2] = ["capi", "session"];
 const PROGRAM: &str = "program";
 
-/// The folder of the libraries: CAPI_DIR, or where `rt staticlib` writes them.
+/// The folder of the libraries: CAPI_DIR, or where `build.sh` puts them.
 fn folder() -> PathBuf {
     println!("cargo::rerun-if-env-changed=CAPI_DIR");
     let package = env::var("CARGO_MANIFEST_DIR").expect("cargo sets CARGO_MANIFEST_DIR");
@@ -25,7 +25,7 @@ fn archive(folder: &Path, name: &str) -> Option<PathBuf> {
     }
     println!(
         "cargo::error=the proved library {} is missing. In the project's top folder run \
-         `rt staticlib {name}`, or `sh build.sh` for all; for libraries kept elsewhere set \
+         `sh build.sh {name}`, or `sh build.sh` for all; for libraries kept elsewhere set \
          CAPI_DIR to their folder, by its whole path.",
         archive.display()
     );

@@ -24,7 +24,7 @@ fn missing_libraries() {
             .find(|line| line.contains(&format!("lib{name}.a is missing")));
         let line = line.unwrap_or_else(|| panic!("nothing on {name}: {text}"));
         assert!(
-            line.contains(&format!("run `rt staticlib {name}`")),
+            line.contains(&format!("run `sh build.sh {name}`")),
             "{line}"
         );
     }

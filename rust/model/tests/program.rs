@@ -22,7 +22,7 @@ fn program() -> Option<PathBuf> {
         return None;
     }
     let path = env::var_os("CRANK_BIN").map_or_else(
-        || PathBuf::from(env!("CARGO_MANIFEST_DIR")).join("../../target/bin/crank"),
+        || PathBuf::from(env!("CARGO_MANIFEST_DIR")).join("../../crates/crank/out/crank"),
         PathBuf::from,
     );
     assert!(path.is_file(), "no program at {}", path.display());

@@ -1,7 +1,7 @@
 //! The crank program with an exit status: `crank < IMAGE`.
 //!
-//! All that it does is the proved library's; a Rattle program can't set its status, so the status
-//! is handed over here. 0; 1 after a refused load; 2 for arguments; 3 where a write failed.
+//! All that it does is the proved library's, which answers the status that is handed over here: 0; 1
+//! after a refused load; 2 for arguments; 3 where a write failed.
 
 use std::env;
 use std::process::ExitCode;
