@@ -1,5 +1,6 @@
 // The calls for other programs: C functions over the proved ones, nothing of their own.
 #![tactic(auto)]
+
 ghost use Rattle.std.specs.Prelude.{◌≡◌, length};
 ghost use Rattle.step.specs.declared.Direction.{Direction};
 ghost use Rattle.machine.specs.Lent.{at_entry, at_exit};

@@ -1,5 +1,6 @@
 // The check of a machine: its code words, and the links of its qif table.
 #![tactic(auto)]
+
 ghost use Rattle.std.specs.Prelude.{◌≡◌, take};
 ghost use Rattle.machine.specs.Lent.{at_entry};
 ghost use Rattle.links.specs.Check.{first_of, no_instruction, check_of, check_node_of};

@@ -1,5 +1,6 @@
 // The register record and its turns.
 #![tactic(auto)]
+
 ghost use Rattle.std.specs.Prelude.{◌≡◌, ◌≤◌};
 ghost use Rattle.qins.specs.Decode.{is_instruction};
 ghost use Rattle.step.specs.declared.Direction.{Direction};

@@ -1,5 +1,6 @@
 // The qif table of a program, made by walking it through both branches of every qif, uni and unib idle.
 #![tactic(auto)]
+
 ghost use Rattle.std.specs.Prelude.{◌≡◌, false, ◌*◌, ◌≤◌, length};
 ghost use Rattle.maker.specs.Parts.{Sized};
 ghost use Rattle.machine.specs.Lent.{at_entry, at_exit};

@@ -1,6 +1,7 @@
 // The fields of an instruction word: what each word stands for is `decode` of specs/, and `step` executes a
 // word as it decodes it.
 #![tactic(auto)]
+
 ghost use Rattle.std.specs.Prelude.{◌≡◌, ◌&&◌};
 ghost use Rattle.qins.specs.Decode.{extended, bare, names_none, names_one, names_two, names_both, names_three};
 

@@ -1,6 +1,7 @@
 // The lesson bench: one record, lent by `&mut` to the calls that alter it and by `&` to those that only look. Each call
 // copies the bench and asks the function inside; one that alters the bench stores what that function gives back.
 #![tactic(auto)]
+
 ghost use Rattle.std.specs.Prelude.{◌≡◌};
 ghost use Rattle.step.specs.declared.Direction.{Direction};
 ghost use Rattle.machine.specs.Calls.{TurnPromise};

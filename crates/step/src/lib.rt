@@ -1,6 +1,7 @@
 // One instruction at a fixed pc, either way: what it would do, or why it is refused; and the lent
 // words that it reads and writes.
 #![tactic(auto)]
+
 ghost use Rattle.std.specs.Prelude.{◌≡◌};
 ghost use Rattle.step.specs.View.{sized, with_node, with_nodes};
 

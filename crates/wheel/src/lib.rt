@@ -1,5 +1,6 @@
 // The wheel: encoder samples, each of which makes one turn or none.
 #![tactic(auto)]
+
 ghost use Rattle.std.specs.Prelude.{◌≡◌, ◌+◌, ◌^◌, ◌<◌, ◌≤◌};
 ghost use Rattle.word.specs.Word.{pick};
 ghost use Rattle.machine.specs.Lent.{at_entry, at_exit};

@@ -1,5 +1,6 @@
 // Arithmetic on words of 32 bits, and choices by a test.
 #![tactic(auto)]
+
 ghost use Rattle.std.specs.Prelude.{◌≡◌, ◌+◌, ◌-◌, ◌*◌, ◌/◌, ◌%◌, true, false, ◌&&◌, ◌||◌, bit_xor};
 ghost use Rattle.word.specs.Refusal.{refuse};
 ghost use Rattle.word.specs.Word.{pick, add_word, sub_word, mul_word, div_word, complement, with_bit};

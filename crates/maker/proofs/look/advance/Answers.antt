@@ -65,8 +65,7 @@ returns-in-Closes c =
 
 pub plain_turn-requires : goal.plain_turn-requires
 plain_turn-requires c =
-    let read = word_is c.args.m c.args.regs c.args.mem.now c.requires.3 c.look-pc.ensures c.word_at-w.ensures in
-    (
+    let read = word_is c.args.m c.args.regs c.args.mem.now c.requires.3 c.look-pc.ensures c.word_at-w.ensures in (
       c.requires,
       sym read,
       (
