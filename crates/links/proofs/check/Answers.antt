@@ -3,7 +3,6 @@ use Rattle.machine.specs.Machine.{machine_of}
 use native.Mathlib.Omega.{arith}
 use Rattle.machine.proofs.WrongSizes.{wrong_sizes_right}
 use Rattle.links.proofs.Answers.{check_sizes, check_code, check_node_lem, check_good}
-use borrow.Author.Rules.{rules}
 use Rattle.links.proofs.check.Goals as goal
 
 pub returns-then-has_bad_sizes : goal.returns-then-has_bad_sizes

@@ -1,6 +1,5 @@
 use mathlib.Core.Path.{sym, ap, ◌∙◌}
 use mathlib.Core.Bool.{not}
-use borrow.Author.Rules.{rules}
 use Rattle.links.proofs.check_node.Goals as goal
 
 pub returns-then-has_bad_sizes : goal.returns-then-has_bad_sizes

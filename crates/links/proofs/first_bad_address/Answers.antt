@@ -1,12 +1,11 @@
 use mathlib.Core.Path.{ap, sym, ◌∙◌}
 use mathlib.Core.Bool.{not}
-use Prim.Native.Nat.{ℕ, ◌-◌}
+use Prim.Native.Nat.{ℕ}
 use native.Mathlib.Omega.{arith}
 use lib.ListN.{take}
 use Rattle.qins.specs.Decode.{is_instruction}
 use Rattle.links.specs.Check.{no_instruction}
-use Rattle.links.proofs.Search.{Searching, search_starts, search_hits, search_ends, search_goes_on}
-use borrow.Author.Rules.{rules}
+use Rattle.links.proofs.Search.{search_hits, search_ends}
 use Rattle.links.proofs.first_bad_address.Goals as goal
 
 pub returns-then-not-is_instruction : goal.returns-then-not-is_instruction

@@ -1,12 +1,7 @@
-use mathlib.Core.Path.{ap, sym, ◌∙◌}
-use mathlib.Core.Bool.{not}
-use Prim.Native.Nat.{ℕ, ◌-◌}
-use native.Mathlib.Omega.{arith}
+use Prim.Native.Nat.{◌-◌}
 use lib.ListN.{take}
-use Rattle.qins.specs.Decode.{is_instruction}
 use Rattle.links.specs.Check.{no_instruction}
-use Rattle.links.proofs.Search.{Searching, search_starts, search_hits, search_ends, search_goes_on}
-use borrow.Author.Rules.{rules}
+use Rattle.links.proofs.Search.{Searching}
 use Rattle.links.proofs.first_bad_address.Given as goal
 
 abbrev pub invariant-loop-a : goal.invariant-loop-a

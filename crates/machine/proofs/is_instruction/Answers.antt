@@ -1,6 +1,5 @@
 use mathlib.Core.Path.{ap}
 use mathlib.Core.Bool.{not}
-use borrow.Author.Rules.{rules}
 use Rattle.machine.proofs.Instruction.{told_by_13}
 use Rattle.machine.proofs.is_instruction.Goals as goal
 

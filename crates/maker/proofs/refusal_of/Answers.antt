@@ -1,7 +1,6 @@
 use mathlib.Core.Path.{sym, ap, ◌∙◌}
 use mathlib.Core.Bool.{not}
 use Rattle.word.specs.Refusal.{refuse}
-use borrow.Author.Rules.{rules}
 use Rattle.maker.proofs.refusal_of.Goals as goal
 
 pub returns-then-has_bad_sizes : goal.returns-then-has_bad_sizes

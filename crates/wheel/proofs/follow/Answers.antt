@@ -1,11 +1,6 @@
-use Prim.Native.Nat.{◌-◌}
-use mathlib.Core.Path.{◌∙◌}
-use native.Mathlib.Omega.{arith}
-use lib.ListN.{length}
 use Rattle.machine.specs.Machine.{machine_of}
 use Rattle.machine.proofs.Given.{given_bounds}
-use Rattle.wheel.specs.Wheel.{counts_of, wheel_at}
-use Rattle.wheel.proofs.Loop.{Loop, refused, begin, done, stopped, again}
+use Rattle.wheel.proofs.Loop.{refused, begin, done, stopped, again}
 use borrow.Author.Rules.{rules}
 use Rattle.wheel.proofs.follow.Goals as goal
 

@@ -1,6 +1,5 @@
 use Rattle.wheel.proofs.Turns.{turns_forward, turns_back, turns_none}
 use Rattle.wheel.proofs.Taken.{take_ends, take_moves}
-use borrow.Author.Rules.{rules}
 use Rattle.wheel.proofs.take.Goals as goal
 
 pub returns-then-n-ne0 : goal.returns-then-n-ne0

@@ -1,4 +1,3 @@
-use borrow.Author.Rules.{rules}
 use Rattle.links.proofs.nodes.are_children_returned.Goals as goal
 
 pub returns : goal.returns

@@ -1,11 +1,9 @@
 use mathlib.Core.Path.{sym, ◌∙◌}
-use Prim.Native.Nat.{◌+◌, ◌-◌}
 use Rattle.step.specs.Table.{table_words}
 use native.Mathlib.Omega.{arith}
 use lib.ListN.{take}
 use Rattle.links.specs.Check.{unpaired}
-use Rattle.links.proofs.Search.{Searching, search_starts, search_hits, search_ends, search_goes_on}
-use borrow.Author.Rules.{rules}
+use Rattle.links.proofs.Search.{search_hits, search_ends}
 use Rattle.links.proofs.nodes.first_unpaired.Goals as goal
 
 pub returns-then-is_unpaired : goal.returns-then-is_unpaired

@@ -1,11 +1,8 @@
-use mathlib.Core.Path.{sym, ◌∙◌}
 use Prim.Native.Nat.{◌+◌, ◌-◌}
 use Rattle.step.specs.Table.{table_words}
-use native.Mathlib.Omega.{arith}
 use lib.ListN.{take}
 use Rattle.links.specs.Check.{unpaired}
-use Rattle.links.proofs.Search.{Searching, search_starts, search_hits, search_ends, search_goes_on}
-use borrow.Author.Rules.{rules}
+use Rattle.links.proofs.Search.{Searching}
 use Rattle.links.proofs.nodes.first_unpaired.Given as goal
 
 abbrev pub invariant-loop-v : goal.invariant-loop-v

@@ -1,4 +1,3 @@
-use borrow.Author.Rules.{rules}
 use Rattle.links.proofs.nodes.is_unpaired.Goals as goal
 
 pub returns : goal.returns

@@ -1,6 +1,5 @@
 use Rattle.word.proofs.Refusal.{refuse_true, refuse_false}
 use mathlib.Core.Path.{sym, ◌∙◌}
-use borrow.Author.Rules.{rules}
 use Rattle.machine.proofs.Record.last_refusal.Goals as goal
 
 pub returns-then-has_bad_sizes : goal.returns-then-has_bad_sizes

@@ -5,7 +5,7 @@ use lib.ListN.{get_or, take}
 use mir.Syntax.{w64}
 use mir.Val.{SFits}
 use mir.Facts.{to_z-of_z}
-use Rattle.machine.specs.Machine.{Machine, machine_of, Bounded}
+use Rattle.machine.specs.Machine.{machine_of}
 use Rattle.machine.proofs.Given.{given_bounds}
 use Rattle.machine.proofs.Shown.{preview_is}
 use borrow.Author.Rules.{rules}

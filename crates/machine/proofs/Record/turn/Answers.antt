@@ -1,6 +1,5 @@
 use Rattle.machine.specs.Machine.{machine_of}
-use Rattle.machine.proofs.Runs.{live_room, live_batch, one}
-use borrow.Author.Rules.{rules}
+use Rattle.machine.proofs.Runs.{live_batch, one}
 use Rattle.machine.proofs.Record.turn.Goals as goal
 
 pub returns : goal.returns

@@ -1,5 +1,4 @@
 use Rattle.machine.proofs.InPlace.{not_refused}
-use borrow.Author.Rules.{rules}
 use Rattle.machine.proofs.cycle.judge.Goals as goal
 
 pub returns-in-Forward : goal.returns-in-Forward

@@ -1,5 +1,4 @@
 use Rattle.machine.proofs.InPlace.{lands_refused, lands_done}
-use borrow.Author.Rules.{rules}
 use Rattle.machine.proofs.cycle.land.Goals as goal
 
 pub returns-in-Refused : goal.returns-in-Refused

@@ -1,7 +1,4 @@
-use mathlib.Core.Path.{ap, ◌∙◌}
-use lib.ListN.{length, length-set}
 use Rattle.machine.proofs.InPlace.{plans}
-use borrow.Author.Rules.{rules}
 use Rattle.machine.proofs.cycle.plan.Goals as goal
 
 pub returns : goal.returns

@@ -1,8 +1,6 @@
 use Prim.Native.Nat.{◌-◌}
-use native.Mathlib.Omega.{arith}
 use lib.ListN.{length}
-use borrow.Author.Rules.{rules}
-use Rattle.maker.proofs.Wholes.{Cleared, cleared_none, cleared_more, cleared_all}
+use Rattle.maker.proofs.Wholes.{Cleared}
 use Rattle.maker.proofs.copy.clear.Given as goal
 
 abbrev pub invariant-loop-i : goal.invariant-loop-i

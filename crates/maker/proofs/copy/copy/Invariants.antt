@@ -1,8 +1,6 @@
-use borrow.Author.Rules.{rules}
-use native.Mathlib.Omega.{arith}
 use Prim.Native.Nat.{◌-◌}
 use lib.ListN.{length}
-use Rattle.maker.proofs.Copies.{Copied, copied_none, copied_more, copied_all}
+use Rattle.maker.proofs.Copies.{Copied}
 use Rattle.maker.proofs.copy.copy.Given as goal
 
 abbrev pub invariant-loop-i : goal.invariant-loop-i

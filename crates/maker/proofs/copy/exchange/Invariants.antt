@@ -1,8 +1,6 @@
-use borrow.Author.Rules.{rules}
-use native.Mathlib.Omega.{arith}
 use Prim.Native.Nat.{◌-◌}
 use lib.ListN.{length}
-use Rattle.maker.proofs.Copies.{Exchanged, exchanged_none, exchanged_more, exchanged_all}
+use Rattle.maker.proofs.Copies.{Exchanged}
 use Rattle.maker.proofs.copy.exchange.Given as goal
 
 abbrev pub invariant-loop-i : goal.invariant-loop-i

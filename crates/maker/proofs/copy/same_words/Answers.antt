@@ -1,8 +1,4 @@
-use borrow.Author.Rules.{rules}
-use native.Mathlib.Omega.{arith}
-use Prim.Native.Nat.{◌-◌}
-use lib.ListN.{length}
-use Rattle.maker.proofs.Copies.{Alike, alike_none, alike_more, alike_not, alike_all}
+use Rattle.maker.proofs.Copies.{alike_not, alike_all}
 use Rattle.maker.proofs.copy.same_words.Goals as goal
 
 pub returns-then-a-i : goal.returns-then-a-i

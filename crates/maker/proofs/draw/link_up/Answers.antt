@@ -1,5 +1,4 @@
 use Rattle.maker.specs.Walk.{linked}
-use borrow.Author.Rules.{rules}
 use Rattle.maker.proofs.draw.link_up.Goals as goal
 
 pub returns : goal.returns

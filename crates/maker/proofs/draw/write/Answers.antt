@@ -1,5 +1,4 @@
 use Rattle.maker.specs.Walk.{put as written}
-use borrow.Author.Rules.{rules}
 use Rattle.maker.proofs.draw.write.Goals as goal
 
 pub returns : goal.returns

@@ -1,5 +1,4 @@
 use Rattle.maker.specs.Walk.{pair}
-use borrow.Author.Rules.{rules}
 use Rattle.maker.proofs.draw.write_pair.Goals as goal
 
 pub returns : goal.returns

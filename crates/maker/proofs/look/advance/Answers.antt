@@ -2,12 +2,11 @@
 use mathlib.Core.Bool.{true, false}
 use mathlib.Core.List.{List}
 use mathlib.Core.Path.{◌≡◌, refl, sym, ap, ap₂, ◌∙◌}
-use Prim.Native.Nat.{ℕ, ◌<◌}
+use Prim.Native.Nat.{ℕ}
 use native.Mathlib.Omega.{arith}
 use lib.ListN.{length, get_or, take}
 use borrow.Author.Rules.{rules}
 use borrow.Author.Tests.{ne_eqb}
-use Rattle.qins.specs.Decode.{finish_word}
 use Rattle.maker.specs.Idle.{idle_op, kind_of}
 use Rattle.maker.specs.declared.Kind.{Kind}
 use Rattle.maker.proofs.Fields.{idle_kind}

@@ -2,7 +2,6 @@ use mathlib.Core.Bool.{true, false}
 use mathlib.Core.Path.{sym, ◌∙◌}
 use native.Mathlib.Omega.{arith}
 use Rattle.maker.proofs.Stepped.{idle_looks}
-use borrow.Author.Rules.{rules}
 use Rattle.maker.proofs.look.idle_turn.Goals as goal
 
 pub returns-then-is_before_start : goal.returns-then-is_before_start

@@ -2,7 +2,6 @@ use mathlib.Core.Path.{sym, ap, ◌∙◌}
 use mathlib.Core.Bool.{Bool, ◌&&◌}
 use Rattle.qins.specs.Decode.{low, bare}
 use Rattle.maker.proofs.Fields.{opens, closes, neither}
-use borrow.Author.Rules.{rules}
 use Rattle.maker.proofs.look.kind_of.Goals as goal
 
 pub returns-then-both : goal.returns-then-both

@@ -2,7 +2,6 @@ use mathlib.Core.Path.{sym, ap, ◌∙◌}
 use native.Mathlib.Omega.{arith}
 use Rattle.qins.specs.Decode.{decode}
 use Rattle.maker.proofs.Stepped.{as_op, not_gate, is_start, is_none, none_halts}
-use borrow.Author.Rules.{rules}
 use Rattle.maker.proofs.look.plain_turn.Goals as goal
 
 pub returns-then-is_instruction : goal.returns-then-is_instruction

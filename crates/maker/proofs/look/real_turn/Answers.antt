@@ -1,5 +1,4 @@
 use Rattle.maker.proofs.Stepped.{turns}
-use borrow.Author.Rules.{rules}
 use Rattle.maker.proofs.look.real_turn.Goals as goal
 
 pub returns-then-n-ne0 : goal.returns-then-n-ne0

@@ -3,7 +3,6 @@ use mathlib.Core.Bool.{not}
 use borrow.Author.Tests.{le-leb, lt-leb}
 use Rattle.maker.specs.Parts.{first_fiq_refusal_of}
 use Rattle.word.specs.Refusal.{refuse}
-use borrow.Author.Rules.{rules}
 use Rattle.maker.proofs.walk.first_fiq_refusal.Goals as goal
 
 pub returns-then-is_before_start : goal.returns-then-is_before_start

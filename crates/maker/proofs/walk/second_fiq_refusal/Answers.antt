@@ -3,7 +3,6 @@ use mathlib.Core.Bool.{not}
 use borrow.Author.Tests.{lt-ltb, le-ltb, le-leb, lt-leb}
 use Rattle.maker.specs.Parts.{second_fiq_refusal_of}
 use Rattle.word.specs.Refusal.{refuse}
-use borrow.Author.Rules.{rules}
 use Rattle.maker.proofs.walk.second_fiq_refusal.Goals as goal
 
 pub returns-then-is_before_start : goal.returns-then-is_before_start

@@ -1,4 +1,3 @@
-use borrow.Author.Rules.{rules}
 use Rattle.step.proofs.operation.as_child.Goals as goal
 
 pub returns : goal.returns

@@ -4,7 +4,6 @@ use borrow.Author.Tests.{ne_eqb}
 use Rattle.qins.specs.Decode.{names_two}
 use Rattle.qins.specs.Op.Op.{Xor}
 use Rattle.qins.specs.Op.Source.{Negated, Complement}
-use borrow.Author.Rules.{rules}
 use Rattle.step.proofs.operation.attempt_ari.Goals as goal
 
 pub returns-in-256 : goal.returns-in-256

@@ -5,7 +5,6 @@ use Prim.Native.Nat.{◌/◌}
 use Rattle.qins.specs.Decode.{names_three}
 use Rattle.qins.specs.Op.Op.{Xor}
 use Rattle.qins.specs.Op.Source.{Sum, Product, Quotient, Equal, Less}
-use borrow.Author.Rules.{rules}
 use Rattle.step.proofs.operation.attempt_arib.Goals as goal
 
 pub returns-in-256 : goal.returns-in-256

@@ -8,7 +8,6 @@ use Rattle.qins.specs.Op.Op.{Start, Finish, Xor, Add, Sub, Neg, Swap, Fetch, Exc
 use Rattle.qins.specs.Op.Source.{Imm, Reg, IfZero, IfNonzero}
 use Rattle.qins.proofs.Listed.{unlisted}
 use Rattle.step.specs.Step.{attempt}
-use borrow.Author.Rules.{rules}
 use Rattle.step.proofs.operation.attempt_fields.Goals as goal
 
 pub returns-in-1 : goal.returns-in-1

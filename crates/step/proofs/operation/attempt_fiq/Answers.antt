@@ -1,7 +1,6 @@
 use mathlib.Core.Path.{◌∙◌}
 use Rattle.step.specs.View.{nodes}
 use Rattle.step.proofs.Known.{fiq_is}
-use borrow.Author.Rules.{rules}
 use Rattle.step.proofs.operation.attempt_fiq.Goals as goal
 
 pub returns : goal.returns

@@ -1,5 +1,4 @@
 use borrow.Author.Tests.{eq-eqb, ne_eqb}
-use borrow.Author.Rules.{rules}
 use Rattle.step.proofs.operation.attempt_qif.Goals as goal
 
 pub returns-then-at-eq0 : goal.returns-then-at-eq0

@@ -4,7 +4,6 @@ use borrow.Author.Tests.{ne_eqb}
 use Rattle.qins.specs.Decode.{names_both}
 use Rattle.qins.specs.Op.Op.{Xor, SwapBits}
 use Rattle.qins.specs.Op.Source.{Bit}
-use borrow.Author.Rules.{rules}
 use Rattle.step.proofs.operation.attempt_unib.Goals as goal
 
 pub returns-in-256 : goal.returns-in-256

@@ -1,6 +1,5 @@
 use Rattle.step.specs.Table.{table_words}
 use Rattle.step.proofs.Views.{view_long}
-use borrow.Author.Rules.{rules}
 use Rattle.step.proofs.sizes.are_bad_sizes.Goals as goal
 
 pub returns : goal.returns

@@ -1,4 +1,3 @@
-use borrow.Author.Rules.{rules}
 use Rattle.step.proofs.table.is_paired.Goals as goal
 
 pub returns : goal.returns

@@ -3,7 +3,6 @@ use mathlib.Core.Path.{◌∙◌}
 use Prim.Native.Nat.{◌+◌, ◌-◌}
 use Rattle.step.specs.Table.{table_words}
 use Rattle.step.proofs.Views.{view_in, view_out, link_none, link_above, link_node}
-use borrow.Author.Rules.{rules}
 use Rattle.step.proofs.table.link_of.Goals as goal
 
 pub returns-then-v-eq0 : goal.returns-then-v-eq0
