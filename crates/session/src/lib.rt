@@ -162,7 +162,7 @@ pub extern "C" fn bench_make_table(
     t.answer
 }
 
-// ---- calls that only look at it; the answer is in a local, as in those above, since one walk goes through all
+// ---- calls that only look at it; the answer is in a local, as in those above
 
 // The turn forward, shown and not made.
 #[unsafe(no_mangle)]
