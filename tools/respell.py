@@ -4,10 +4,11 @@
 usage: tools/respell.py            at the top, once, after port.py: turns the files by tools/respelled.tsv
        tools/respell.py --table    prints that table anew, from what specs/ and proofs/ declare after port.py
 
-A row is an old name, a tab, and the new one. Whole words turn, in .antt and .rt files and in code spans of pages. In pages the
-names turn too that port.py turned in the crates.
-A lemma that would have its definition's name gets _lem. Such a row with no dash and no capital doesn't turn behind a dot,
-where the name is a function's folder or a field.
+A row is an old name, a tab, and the new one. Whole words turn, in .antt and .rt files and in code spans of pages; in pages
+those turn too that port.py turned in the crates. Must-fail edits and the pages PORT*.md stay as they are.
+A lemma that would have its definition's name gets _lem, and BY_HAND has a name that would meet a local one. A row whose old
+name has no dash and no capital turns in .antt files alone, and not behind a dot, where it names a function's folder or a field.
+--table prints a line '# look: ..' for a name that meets another one and that it has no rule for.
 """
 
 import glob

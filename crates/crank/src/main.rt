@@ -5,7 +5,7 @@
 use std::env::{Env, FillError};
 
 // How many words the command line has, the program's own name among them. No word is copied, so it may be any.
-fn count_words(rt: &impl Env) -> usize {
+fn count_words(rt: &HostRuntime) -> usize {
     for i in 0..usize::MAX {
         match rt.arg(i, &mut []) {
             Err(FillError::NotPresent) => return i,

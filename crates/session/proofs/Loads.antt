@@ -12,15 +12,7 @@ use Rattle.image.proofs.RoundTrip.{refused_loads}
 use Rattle.session.specs.Bench.{BenchLoadPromise}
 use Rattle.session.specs.Claims.{BenchLoads}
 
--- what the function by value shows: refused, the bench keeps its record, and accepted it takes the loaded one
-module _ {file mem table mem' table' : List ℕ} {r : Record} {a : Loaded} (h : LoadPromise file mem table a.refusal (machine_of a.state mem' table')) where
-  pub load_keeps : a.refusal ≢ 0 → BenchLoadPromise file (machine_of r mem table) a (machine_of r mem' table')
-  load_keeps e = record { load = h; bench = rw (ne_eqb a.refusal 0 e) }
-
-  pub load_takes : a.refusal ≡ 0 → BenchLoadPromise file (machine_of r mem table) a (machine_of a.state mem' table')
-  load_takes e = record { load = h; bench = rw e }
-
--- so the promise says which of the two
+-- the promise says which record the bench has
 pub load_kept : {file : List ℕ} {x y : Machine} {a : Loaded} → BenchLoadPromise file x a y → a.refusal ≢ 0 → y.state ≡ x.state
 load_kept {a = a} p e = p.bench ∙ rw (ne_eqb a.refusal 0 e)
 
