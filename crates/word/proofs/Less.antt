@@ -1,6 +1,7 @@
 -- Words compared as signed, and their quotient. Assumes nothing.
-use Rattle.std.proofs.Common.{◌≡◌, ℕ, suc, ◌+◌, ◌-◌, ◌*◌, ◌%◌, ◌^◌, ◌<◌, ◌≤◌, Bool, true, false, ltb, ℤ, pos, negsuc, ◌+ℤ◌, sym, refl, ap, ◌∙◌, ap₂, true≢false, arith, w32, to_z, ltb-false, ltb-true, le-ltb, lt-ltb, ne_eqb}
+use Rattle.std.proofs.Common.{◌≡◌, ℕ, suc, ◌+◌, ◌-◌, ◌*◌, ◌%◌, ◌^◌, ◌<◌, ◌≤◌, Bool, true, false, ltb, ℤ, pos, negsuc, ◌+ℤ◌, sym, refl, ap, ◌∙◌, ap₂, true≢false, arith, w32, Fits, to_z, of_z, ltb-false, ltb-true, le-ltb, lt-ltb, ne_eqb}
 use native.Mathlib.Nat.{div-eq_of_lt-le}
+use mir.Facts.{of_z-to_z}
 use lib.Signed.{mag, lt_z, non_neg}
 use Rattle.word.specs.Word.{add_word, signed, is_less}
 use Rattle.word.specs.Claims.{wrap, SignedWords, ComparedWords, Divides}
@@ -61,6 +62,10 @@ module _ (a b : ℕ) (f : a < 2 ^ 32) (g : b < 2 ^ 32) where
   by_value (lower h e) (upper k i) z = absurd (true≢false (ap non_neg (sym e ∙ z ∙ i)))
   by_value (upper h e) (lower k i) z = absurd (true≢false (ap non_neg (sym i ∙ sym z ∙ e)))
   by_value (upper h e) (upper k i) z = let n = ap mag (sym e ∙ z ∙ i) in omega arith
+
+-- words that are cast and compared
+pub casts_compare : {a b : ℕ} {x y : ℤ} → Fits w32 a → Fits w32 b → x ≡ to_z w32 a → y ≡ to_z w32 b → lt_z (to_z w32 (of_z w32 x)) (to_z w32 (of_z w32 y)) ≡ is_less a b
+casts_compare f g p q = rw (p, q, of_z-to_z f, of_z-to_z g) (sym (less_is _ _ (bits_are _ f.fits) (bits_are _ g.fits)))
 
 pub signed_words : SignedWords
 signed_words a f = record { value = value_is a f (half a f); bits = bits_are a f }

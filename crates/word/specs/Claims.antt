@@ -23,7 +23,7 @@ SignedWords = (a : ℕ) → a < 2 ^ 32 → Signed a
 -- Claim: of two words
 pub record Compared (a b : ℕ) : Type 0 where
   pub less : (is_less a b ≡ true) ↔ Below a b
-  -- as the code compares: with the top bits flipped
+  -- with their top bits flipped the words are in that order
   pub flipped : is_less a b ≡ nat_lt (add_word a (2 ^ 31)) (add_word b (2 ^ 31))
   -- words with one signed value are one word, so that equal has no second rule
   pub equal : signed a ≡ signed b → a ≡ b

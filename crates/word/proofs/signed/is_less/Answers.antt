@@ -1,6 +1,5 @@
-use Rattle.std.proofs.Common.{sym}
-use Rattle.word.proofs.Less.{compared_words}
+use Rattle.word.proofs.Less.{casts_compare}
 use Rattle.word.proofs.signed.is_less.Goals as goal
 
 pub returns : goal.returns
-returns c = rw (c.add_word-2.ensures, c.add_word.ensures) (sym (compared_words _ _ c.ranges.a.fits c.ranges.b.fits).flipped)
+returns c = casts_compare c.ranges.a c.ranges.b c.cast_signed.ensures c.cast_signed-2.ensures
