@@ -2,6 +2,7 @@
 use Rattle.std.specs.Prelude.{ℕ, ◌*◌, ◌/◌, ◌%◌, ◌≡◌, Bool, not, ◌&&◌, eqb, ltb}
 use Rattle.word.specs.Word.{pick, add_word}
 use Rattle.qins.specs.Op.{Op}
+use Rattle.qins.specs.declared.Fields.{Fields}
 use Rattle.qins.specs.Op.Op.{None, Start, Finish, Xor, Add, Sub, Neg, Swap, SwapBits, Fetch, Exchange, Qif, Fiq}
 use Rattle.qins.specs.Op.Source.{Imm, Reg, Negated, Complement, Sum, Product, Quotient, Equal, Less, IfZero, IfNonzero, Bit}
 
@@ -22,6 +23,10 @@ reg2 w = w / 65536 % 16
 -- bits 15-0: the immediate of type I, reg3 and para of type O
 abbrev pub low : ℕ → ℕ
 low w = w % 65536
+
+-- f are the fields of w
+abbrev pub IsFields : ℕ → Fields → Type 0
+IsFields w f = f ≡ record { o = opcode w; a = reg1 w; b = reg2 w; i = low w }
 
 -- the low half's bits 15-12
 abbrev pub reg3 : ℕ → ℕ

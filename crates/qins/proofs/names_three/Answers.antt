@@ -1,4 +1,0 @@
-use Rattle.qins.proofs.names_three.Goals as goal
-
-pub returns : goal.returns
-returns c = cc
