@@ -8,13 +8,15 @@ use lib.Dec.{eqb, ltb, leb}
 use borrow.Author.Tests.{ltb-true, leb-true, eqb-true, eqb-false, lt-ltb, le-leb}
 use Rattle.word.proofs.Words.{and_true}
 use Rattle.word.specs.Refusal.{refuse}
-use Rattle.step.specs.Step.{number, when_ready, is_allowed, when_allowed, attempt}
+use Rattle.step.specs.Step.{when_ready, is_allowed, when_allowed, attempt}
+use Rattle.word.specs.Refusal.{number}
 use Rattle.step.specs.Claims.{Within, Addressed, Addresses}
 use Rattle.step.specs.Claims.Accesses.{copies, exchanges}
 use Rattle.step.specs.declared.Status.{Status}
 use Rattle.step.specs.declared.Access.{Access}
 use Rattle.step.specs.declared.Effect.{Effect}
-use Rattle.step.specs.declared.Attempt.TheVariants.{Refused, Does}
+use Rattle.std.specs.Prelude.{Err, Ok}
+use Rattle.word.specs.declared.refusals.Refusal.TheVariants.{Waiting, Address}
 
 pub allowed_within : (x : Access) (at : Status) (i : ℕ) → (is_allowed x at i ≡ true) ↔ Within x at i
 allowed_within Access.Copy at i = (ltb-true i at.m, lt-ltb i at.m)
@@ -23,12 +25,12 @@ allowed_within Access.Exchange at i = (
   λ p. let k = le-leb at.k i p.0 in let m = lt-ltb i at.m p.1 in rw (k, m),
 )
 
-addressed : (x : Access) (at : Status) (i : ℕ) (e : Effect) → Addressed x at i (number (when_ready at (when_allowed x at i (Does e))))
+addressed : (x : Access) (at : Status) (i : ℕ) (e : Effect) → Addressed x at i (number (when_ready at (when_allowed x at i (Ok e))))
 unfolding refuse
 addressed x at i e = go (eqb at.qifw 0) refl (is_allowed x at i) refl
   where
     go : (ready : Bool) → eqb at.qifw 0 ≡ ready → (allowed : Bool) → is_allowed x at i ≡ allowed
-        → Addressed x at i (number (refuse (not ready) (Refused 14) (refuse (not allowed) (Refused 15) (Does e))))
+        → Addressed x at i (number (refuse (not ready) (Err Waiting) (refuse (not allowed) (Err Address) (Ok e))))
     go true z true y =
         let w = (allowed_within x at i).0 y in
         record {

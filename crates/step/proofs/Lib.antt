@@ -2,11 +2,9 @@ pub mod Views
 pub mod Sized
 pub mod BadSizes
 pub mod Same
-pub mod Known
 pub mod Numbers
 pub mod Addresses
 pub mod Results
 pub mod Undo
 pub mod Kept
 pub mod Nodes
-pub mod Stores

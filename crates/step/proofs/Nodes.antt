@@ -18,8 +18,10 @@ use Rattle.step.specs.declared.Direction.{Direction}
 use Rattle.step.specs.declared.Direction.TheVariants.{Forward}
 use Rattle.step.specs.declared.Effect.{Effect}
 use Rattle.step.specs.declared.Effect.TheVariants.{SetNode}
-use Rattle.step.specs.declared.Attempt.{Attempt}
-use Rattle.step.specs.declared.Attempt.TheVariants.{Refused, Does}
+use Rattle.step.specs.Step.{Attempt}
+use Rattle.std.specs.Prelude.{Err, Ok}
+use Rattle.word.specs.Refusal.{number_of}
+use Rattle.word.specs.declared.refusals.Refusal.TheVariants.{Waiting, Address}
 
 -- ---- operations: a qif, a fiq, or one that sets no node
 
@@ -47,16 +49,16 @@ KeepsNode e = (at : Status) → marked e at ≡ at
 
 -- a refusal by 13 or 15, or such an effect
 abbrev pub Unmarked : Attempt → Type 0
-Unmarked (Refused n) = (n ≡ 13) ⊎ (n ≡ 15)
-Unmarked (Does e) = KeepsNode e
+Unmarked (Err n) = (number_of n ≡ 13) ⊎ (number_of n ≡ 15)
+Unmarked (Ok e) = KeepsNode e
 
 -- it is so where nothing waits
 module _ (t : List ℕ) (d : Direction) (s : View) (ready : is_ready s.at ≡ true) where
-  started : (x : Attempt) → Unmarked x → Unmarked (refuse (not (is_ready s.at)) (Refused 14) x)
+  started : (x : Attempt) → Unmarked x → Unmarked (refuse (not (is_ready s.at)) (Err Waiting) x)
   unfolding refuse
   started x h = rw ready h
 
-  allowed : (b : Bool) (x : Attempt) → Unmarked x → Unmarked (refuse b (Refused 15) x)
+  allowed : (b : Bool) (x : Attempt) → Unmarked x → Unmarked (refuse b (Err Address) x)
   unfolding refuse
   allowed true x h = inr refl
   allowed false x h = h
@@ -99,17 +101,17 @@ attempt_placed t t' d n n' v v' j s (Fiq a) h = absurd (true≢false h)
 
 module _ (t : List ℕ) (n : ℕ) (s : View) where
   pub attempt_enters : (v a x : ℕ) → x ≤ 1 → reg s a ≡ x → paired t n v (fc x) (link t n v (fc x)) cf ≡ true
-      → attempt t Forward (Qif a) (placed n v 0 s) ≡ Does (SetNode (link t n v (fc x)) (link t n (link t n v (fc x)) w))
+      → attempt t Forward (Qif a) (placed n v 0 s) ≡ Ok (SetNode (link t n v (fc x)) (link t n (link t n v (fc x)) w))
   unfolding attempt qif enter refuse
   attempt_enters v a x b e p = rw (e, le-leb x 1 b, p)
 
   pub attempt_waits : (v j a x : ℕ) → eqb j 0 ≡ false → x ≤ 1 → reg s a ≡ x → paired t n (link t n v cf) (fc x) v cf ≡ true → j ≤ link t n v w
-      → attempt t Forward (Qif a) (placed n v j s) ≡ Does (SetNode v (j - 1))
+      → attempt t Forward (Qif a) (placed n v j s) ≡ Ok (SetNode v (j - 1))
   unfolding attempt qif child refuse
   attempt_waits v j a x z b e p h = rw (e, le-leb x 1 b, z, p, le-ltb (link t n v w) j h)
 
   pub attempt_leaves : (v a x : ℕ) → x ≤ 1 → reg s a ≡ x
       → (paired t n (link t n v cl) (lc x) v cl && paired t n (link t n v cl) nx (link t n (link t n v cl) nx) pr) ≡ true
-      → attempt t Forward (Fiq a) (placed n v 0 s) ≡ Does (SetNode (link t n (link t n v cl) nx) 0)
+      → attempt t Forward (Fiq a) (placed n v 0 s) ≡ Ok (SetNode (link t n (link t n v cl) nx) 0)
   unfolding attempt fiq pass refuse
   attempt_leaves v a x b e p = rw (e, le-leb x 1 b, p)

@@ -12,7 +12,7 @@ use Rattle.step.specs.Step.{value, when_ready, attempt}
 use Rattle.step.specs.Claims.{Result, Results}
 use Rattle.step.specs.Claims.Result.{quotient, by_zero, equal, unequal, less, not_less}
 use Rattle.step.specs.declared.Effect.TheVariants.{Write}
-use Rattle.step.specs.declared.Attempt.TheVariants.{Does}
+use Rattle.std.specs.Prelude.{Ok}
 
 not_true_is : (b : Bool) → (b ≡ true → ⊥) → b ≡ false
 not_true_is true h = absurd (h refl)
@@ -33,4 +33,4 @@ value_is s f v x (not_less b c n) = ap flag (not_true_is _ (λ h. n ((compared_w
 
 pub results : Results
 unfolding attempt
-results t d s f a v x r = ap (λ (y : ℕ). when_ready s.at (Does (Write a (bit_xor (reg s a) y)))) (value_is s f v x r)
+results t d s f a v x r = ap (λ (y : ℕ). when_ready s.at (Ok (Write a (bit_xor (reg s a) y)))) (value_is s f v x r)

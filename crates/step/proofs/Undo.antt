@@ -26,8 +26,10 @@ use Rattle.step.specs.declared.Direction.TheVariants.{Forward, Back}
 use Rattle.step.specs.declared.Access.{Access}
 use Rattle.step.specs.declared.Effect.{Effect}
 use Rattle.step.specs.declared.Effect.TheVariants.{Nothing, Write, WriteTwo, SwapWord, SetNode}
-use Rattle.step.specs.declared.Attempt.{Attempt}
-use Rattle.step.specs.declared.Attempt.TheVariants.{Refused, Does}
+use Rattle.step.specs.Step.{Attempt}
+use Rattle.std.specs.Prelude.{Err, Ok}
+use Rattle.word.specs.declared.refusals.Refusal.{Refusal}
+use Rattle.word.specs.declared.refusals.Refusal.TheVariants.{Waiting, Address, Coin, Node}
 use Rattle.step.proofs.Addresses.{allowed_within}
 
 -- an effect that spares pc and the code, writes words, and stores within the memory
@@ -41,19 +43,19 @@ Fair (SetNode u j) at = Unit {0}
 -- the effect that the operation has the other way, after e, and that it leads home
 pub record Undone (t : List ℕ) (d : Direction) (o : Op) (s : View) (e : Effect) : Type 0 where
   pub by : Effect
-  pub does : attempt t (flip d) o (performed e s) ≡ Does by
+  pub does : attempt t (flip d) o (performed e s) ≡ Ok by
   pub home : performed by (performed e s) ≡ s
   pub fair : Fair e s.at
 
 -- ---- what a test that was passed says
 
-pub refused_no : {n : ℕ} {e : Effect} → Refused n ≡ Does e → ⊥
+pub refused_no : {n : Refusal} {e : Effect} → ◌≡◌ {A = Attempt} (Err n) (Ok e) → ⊥
 refused_no h = let z : ◌≡◌ {A = ℕ} 0 1 = cc in omega arith
 
-pub inside : {e f : Effect} → Does e ≡ Does f → e ≡ f
+pub inside : {e f : Effect} → ◌≡◌ {A = Attempt} (Ok e) (Ok f) → e ≡ f
 inside h = cc
 
-pub passed : (b : Bool) (n : ℕ) (x : Attempt) {e : Effect} → refuse b (Refused n) x ≡ Does e → (b ≡ false) × (x ≡ Does e)
+pub passed : (b : Bool) (n : Refusal) (x : Attempt) {e : Effect} → refuse b (Err n) x ≡ Ok e → (b ≡ false) × (x ≡ Ok e)
 unfolding refuse
 passed true n x h = absurd (refused_no h)
 passed false n x h = (refl, h)
@@ -141,13 +143,13 @@ module _ (t : List ℕ) (s : View) (g : Bounds s) (room : s.at.m ≤ length s.me
   read : (a v : ℕ) → a < 16 → get_or (set s.regs a v) a 0 ≡ v
   read a v h = get_or-set_same s.regs a v 0 (in_regs a h)
 
-  was_ready : (x : Attempt) {e : Effect} → when_ready at x ≡ Does e → (not (is_ready at) ≡ false) × (x ≡ Does e)
-  was_ready x h = passed (not (is_ready at)) 14 x h
+  was_ready : (x : Attempt) {e : Effect} → when_ready at x ≡ Ok e → (not (is_ready at) ≡ false) × (x ≡ Ok e)
+  was_ready x h = passed (not (is_ready at)) Waiting x h
 
   -- a register changed by f, and changed back by f'
   change : (d : Direction) (o : Op) (a : ℕ) (f f' : ℕ → ℕ) → Named a → f (reg s a) < 2 ^ 32 → f' (f (reg s a)) ≡ reg s a
-      → attempt t (flip d) o (performed (Write a (f (reg s a))) s) ≡ Does (Write a (f' (get_or (set s.regs a (f (reg s a))) a 0)))
-      → {e : Effect} → Does (Write a (f (reg s a))) ≡ Does e → Undone t d o s e
+      → attempt t (flip d) o (performed (Write a (f (reg s a))) s) ≡ Ok (Write a (f' (get_or (set s.regs a (f (reg s a))) a 0)))
+      → {e : Effect} → ◌≡◌ {A = Attempt} (Ok (Write a (f (reg s a)))) (Ok e) → Undone t d o s e
   change d o a f f' n word law does p =
       subst (Undone t d o s) (inside p)
       (record {
@@ -175,8 +177,8 @@ module _ (t : List ℕ) (s : View) (g : Bounds s) (room : s.at.m ≤ length s.me
   change_two : (d : Direction) (o : Op) (a b : ℕ) (f : ℕ → ℕ → ℕ) → Formed (Swap a b)
       → ((x y : ℕ) → x < 2 ^ 32 → y < 2 ^ 32 → f x y < 2 ^ 32) → ((x y : ℕ) → f (f x y) (f y x) ≡ x)
       → ((l : List ℕ) → attempt t (flip d) o (record { at = at; regs = l; memory = s.memory })
-      ≡ Does (WriteTwo a (f (get_or l a 0) (get_or l b 0)) b (f (get_or l b 0) (get_or l a 0))))
-      → {e : Effect} → Does (WriteTwo a (f (reg s a) (reg s b)) b (f (reg s b) (reg s a))) ≡ Does e → Undone t d o s e
+      ≡ Ok (WriteTwo a (f (get_or l a 0) (get_or l b 0)) b (f (get_or l b 0) (get_or l a 0))))
+      → {e : Effect} → ◌≡◌ {A = Attempt} (Ok (WriteTwo a (f (reg s a) (reg s b)) b (f (reg s b) (reg s a)))) (Ok e) → Undone t d o s e
   change_two d o a b f n word law does p =
       let x = reg s a in
       let y = reg s b in
@@ -192,12 +194,12 @@ module _ (t : List ℕ) (s : View) (g : Bounds s) (room : s.at.m ≤ length s.me
 
   -- ---- qif and fiq set the node and the wait count
 
-  visit : (d : Direction) (o : Op) (u j v i : ℕ) → attempt t (flip d) o (performed (SetNode u j) s) ≡ Does (SetNode v i) → v ≡ at.qifv → i ≡ at.qifw
-      → {e : Effect} → Does (SetNode u j) ≡ Does e → Undone t d o s e
+  visit : (d : Direction) (o : Op) (u j v i : ℕ) → attempt t (flip d) o (performed (SetNode u j) s) ≡ Ok (SetNode v i) → v ≡ at.qifv → i ≡ at.qifw
+      → {e : Effect} → ◌≡◌ {A = Attempt} (Ok (SetNode u j)) (Ok e) → Undone t d o s e
   visit d o u j v i does p q h =
       subst (Undone t d o s) (inside h) (record { by = SetNode v i; does = does; home = rw (p, q); fair = tt })
 
-  qif_forward : (a : ℕ) → not (is_coin (reg s a)) ≡ false → {e : Effect} → qif t Forward at (reg s a) ≡ Does e → Undone t Forward (Qif a) s e
+  qif_forward : (a : ℕ) → not (is_coin (reg s a)) ≡ false → {e : Effect} → qif t Forward at (reg s a) ≡ Ok e → Undone t Forward (Qif a) s e
   unfolding refuse attempt qif child enter
   qif_forward a coin {e} h = go (eqb at.qifw 0) refl h
     where
@@ -214,25 +216,25 @@ module _ (t : List ℕ) (s : View) (g : Bounds s) (room : s.at.m ≤ length s.me
       most = link t at.n at.qifv w
 
       go : (b : Bool) → eqb at.qifw 0 ≡ b
-          → pick b (enter t at x u) (child t at x v (Does (SetNode at.qifv (at.qifw - 1)))) ≡ Does e → Undone t Forward (Qif a) s e
+          → pick b (enter t at x u) (child t at x v (Ok (SetNode at.qifv (at.qifw - 1)))) ≡ Ok e → Undone t Forward (Qif a) s e
       go true z h =
-          let p = passed (not (paired t at.n at.qifv x u cf)) 17 _ h in
+          let p = passed (not (paired t at.n at.qifv x u cf)) Node _ h in
           let home = (pair t at.n at.qifv x u cf (not_not _ p.0)).home in
           let j = link t at.n u w in
           visit Forward (Qif a) u j at.qifv 0 (rw (coin, home, p.0, le-ltb j j (omega arith))) refl (sym (eqb-true _ _ z)) p.1
       go false z h =
-          let p = passed (not (paired t at.n v x at.qifv cf)) 17 _ h in
-          let q = passed (ltb most at.qifw) 14 _ p.1 in
+          let p = passed (not (paired t at.n v x at.qifv cf)) Node _ h in
+          let q = passed (ltb most at.qifw) Waiting _ p.1 in
           let l = ltb-false most at.qifw q.0 in
           let some = eqb-false at.qifw 0 z in
           visit Forward (Qif a) at.qifv (at.qifw - 1) at.qifv (at.qifw - 1 + 1)
           (rw (coin, p.0, le-ltb most (at.qifw - 1) (omega arith), lt-ltb (at.qifw - 1) most (omega arith))) refl (omega arith) q.1
 
-  qif_back : (a : ℕ) → not (is_coin (reg s a)) ≡ false → {e : Effect} → qif t Back at (reg s a) ≡ Does e → Undone t Back (Qif a) s e
+  qif_back : (a : ℕ) → not (is_coin (reg s a)) ≡ false → {e : Effect} → qif t Back at (reg s a) ≡ Ok e → Undone t Back (Qif a) s e
   unfolding refuse attempt qif child enter
   qif_back a coin {e} h =
-      let p = passed (not (paired t at.n v x at.qifv cf)) 17 _ h in
-      let q = passed (ltb most at.qifw) 14 _ p.1 in
+      let p = passed (not (paired t at.n v x at.qifv cf)) Node _ h in
+      let q = passed (ltb most at.qifw) Waiting _ p.1 in
       go p.0 (ltb-false most at.qifw q.0) (ltb at.qifw most) refl q.1
     where
       x : ℕ
@@ -245,7 +247,7 @@ module _ (t : List ℕ) (s : View) (g : Bounds s) (room : s.at.m ≤ length s.me
       most = link t at.n at.qifv w
 
       go : not (paired t at.n v x at.qifv cf) ≡ false → at.qifw ≤ most → (b : Bool) → ltb at.qifw most ≡ b
-          → Does (pick b (SetNode at.qifv (at.qifw + 1)) (SetNode v 0)) ≡ Does e → Undone t Back (Qif a) s e
+          → ◌≡◌ {A = Attempt} (Ok (pick b (SetNode at.qifv (at.qifw + 1)) (SetNode v 0))) (Ok e) → Undone t Back (Qif a) s e
       go linked l true z h =
           let less = ltb-true at.qifw most z in
           visit Back (Qif a) at.qifv (at.qifw + 1) at.qifv (at.qifw + 1 - 1)
@@ -263,30 +265,30 @@ module _ (t : List ℕ) (s : View) (g : Bounds s) (room : s.at.m ≤ length s.me
       (pair t at.n p (lc x) v cl q.0, pair t at.n p nx u pr q.1)
 
   fiq_undone : (d : Direction) (a : ℕ) → not (is_ready at) ≡ false → not (is_coin (reg s a)) ≡ false
-      → {e : Effect} → fiq t d at (reg s a) ≡ Does e → Undone t d (Fiq a) s e
+      → {e : Effect} → fiq t d at (reg s a) ≡ Ok e → Undone t d (Fiq a) s e
   unfolding refuse attempt fiq pass
   fiq_undone Forward a ready coin h =
       let p = link t at.n at.qifv cl in
       let u = link t at.n p nx in
-      let q = passed (not (paired t at.n p (lc (reg s a)) at.qifv cl && paired t at.n p nx u pr)) 17 _ h in
+      let q = passed (not (paired t at.n p (lc (reg s a)) at.qifv cl && paired t at.n p nx u pr)) Node _ h in
       let l = fiq_links p at.qifv u (reg s a) q.0 in
       visit Forward (Fiq a) u at.qifw at.qifv at.qifw (rw (ready, coin, l.1.home, l.0.there, q.0)) refl refl q.1
   fiq_undone Back a ready coin h =
       let p = link t at.n at.qifv pr in
       let v = link t at.n p (lc (reg s a)) in
-      let q = passed (not (paired t at.n p (lc (reg s a)) v cl && paired t at.n p nx at.qifv pr)) 17 _ h in
+      let q = passed (not (paired t at.n p (lc (reg s a)) v cl && paired t at.n p nx at.qifv pr)) Node _ h in
       let l = fiq_links p v at.qifv (reg s a) q.0 in
       visit Back (Fiq a) v at.qifw at.qifv at.qifw (rw (ready, coin, l.0.home, l.1.there, q.0)) refl refl q.1
 
-  qif_undone : (d : Direction) (a : ℕ) → not (is_coin (reg s a)) ≡ false → {e : Effect} → qif t d at (reg s a) ≡ Does e → Undone t d (Qif a) s e
+  qif_undone : (d : Direction) (a : ℕ) → not (is_coin (reg s a)) ≡ false → {e : Effect} → qif t d at (reg s a) ≡ Ok e → Undone t d (Qif a) s e
   qif_undone Forward a coin h = qif_forward a coin h
   qif_undone Back a coin h = qif_back a coin h
 
-  nothing : (d : Direction) (o : Op) → attempt t (flip d) o s ≡ Does Nothing → {e : Effect} → Does Nothing ≡ Does e → Undone t d o s e
+  nothing : (d : Direction) (o : Op) → attempt t (flip d) o s ≡ Ok Nothing → {e : Effect} → ◌≡◌ {A = Attempt} (Ok Nothing) (Ok e) → Undone t d o s e
   nothing d o does h = subst (Undone t d o s) (inside h) (record { by = Nothing; does = does; home = refl; fair = tt })
 
   -- ---- every operation, either way
-  pub undone : (d : Direction) (o : Op) → Formed o → {e : Effect} → attempt t d o s ≡ Does e → Undone t d o s e
+  pub undone : (d : Direction) (o : Op) → Formed o → {e : Effect} → attempt t d o s ≡ Ok e → Undone t d o s e
   unfolding refuse attempt
   undone d None f h = absurd (refused_no h)
   undone d Start f h = let p = was_ready _ h in nothing d Start (rw p.0) p.1
@@ -319,14 +321,14 @@ module _ (t : List ℕ) (s : View) (g : Bounds s) (room : s.at.m ≤ length s.me
       change_two d (SwapBits a b) a b with_bit f (λ x y hx hy. bit_word x y hx) bit_back (λ l. rw p.0) p.1
   undone d (Fetch a b) f h =
       let p = was_ready _ h in
-      let q = passed (not (is_allowed Access.Copy at (reg s b))) 15 _ p.1 in
+      let q = passed (not (is_allowed Access.Copy at (reg s b))) Address _ p.1 in
       let y = get_or s.memory (reg s b) 0 in
       change d (Fetch a b) a (λ x. bit_xor x y) (λ x. bit_xor x y) f.0 (xor_lt 32 (reg s a) y (g.regs a) (g.words (reg s b)))
       (xor_again (reg s a) y) (rw (p.0, get_or-set_other s.regs a b (bit_xor (reg s a) y) 0 f.1, q.0)) q.1
   undone d (Exchange a v) f h =
       let p = was_ready _ h in
       let i = value v s.regs in
-      let q = passed (not (is_allowed Access.Exchange at i)) 15 _ p.1 in
+      let q = passed (not (is_allowed Access.Exchange at i)) Address _ p.1 in
       let l = (allowed_within Access.Exchange at i).0 (not_not _ q.0) in
       subst (Undone t d (Exchange a v) s) (inside q.1)
       (record {
@@ -339,8 +341,8 @@ module _ (t : List ℕ) (s : View) (g : Bounds s) (room : s.at.m ≤ length s.me
             );
         fair = (f.0.0, l.0, l.1);
       })
-  undone d (Qif a) f h = let p = passed (not (is_coin (reg s a))) 16 _ h in qif_undone d a p.0 p.1
+  undone d (Qif a) f h = let p = passed (not (is_coin (reg s a))) Coin _ h in qif_undone d a p.0 p.1
   undone d (Fiq a) f h =
       let p = was_ready _ h in
-      let q = passed (not (is_coin (reg s a))) 16 _ p.1 in
+      let q = passed (not (is_coin (reg s a))) Coin _ p.1 in
       fiq_undone d a p.0 q.0 q.1

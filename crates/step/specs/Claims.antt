@@ -8,12 +8,13 @@ use Rattle.qins.specs.Op.{Op, Source}
 use Rattle.qins.specs.Op.Op.{Xor, Fetch, Exchange}
 use Rattle.qins.specs.Op.Source.{Quotient, Equal, Less}
 use Rattle.step.specs.View.{View, Words, reg}
-use Rattle.step.specs.Step.{value, number, when_ready, attempt}
+use Rattle.step.specs.Step.{value, when_ready, attempt}
+use Rattle.word.specs.Refusal.{number}
 use Rattle.step.specs.declared.Status.{Status}
 use Rattle.step.specs.declared.Direction.{Direction}
 use Rattle.step.specs.declared.Access.{Access}
 use Rattle.step.specs.declared.Effect.TheVariants.{Write}
-use Rattle.step.specs.declared.Attempt.TheVariants.{Does}
+use Rattle.std.specs.Prelude.{Ok}
 
 -- ---- addresses
 
@@ -52,4 +53,4 @@ pub data Result (s : View) : Source → ℕ → Type 0 where
 abbrev pub Results : Type 0
 Results =
     (t : List ℕ) (d : Direction) (s : View) → Words s.regs → (a : ℕ) (v : Source) (x : ℕ) → Result s v x
-    → attempt t d (Xor a v) s ≡ when_ready s.at (Does (Write a (bit_xor (reg s a) x)))
+    → attempt t d (Xor a v) s ≡ when_ready s.at (Ok (Write a (bit_xor (reg s a) x)))

@@ -2,6 +2,8 @@
 use Rattle.std.specs.Prelude.{ℕ, ◌^◌, ◌<◌, ◌≡◌, List, length, get_or, set, take}
 use Rattle.step.specs.Table.{table_words}
 use Rattle.step.specs.declared.Status.{Status}
+use Rattle.step.specs.declared.Seen.{Seen}
+use Rattle.step.specs.declared.table.Nodes.{Nodes}
 use Rattle.step.specs.declared.Direction.{Direction}
 use Rattle.step.specs.declared.Direction.TheVariants.{Forward, Back}
 
@@ -41,6 +43,17 @@ seen at regs mem = record { at = at; regs = regs; memory = take at.m mem }
 abbrev pub nodes : Status → List ℕ → List ℕ
 nodes at table = take (table_words at.n) table
 
+-- the view that is lent, and the links beside it
+abbrev pub view_in : Seen → View
+view_in s = seen s.at s.regs.now s.mem.now
+
+abbrev pub links_in : Seen → List ℕ
+links_in s = nodes s.at s.table.now
+
+-- the words of a table of nodes that count
+abbrev pub words_in : Nodes → List ℕ
+words_in t = take (table_words t.n) t.words.now
+
 -- The bounds that the laws ask for and the types give: sixteen registers, and words of 32 bits.
 -- Each call proves them of its own arguments.
 abbrev pub Words : List ℕ → Type 0
@@ -56,6 +69,6 @@ flip Forward = Back
 flip Back = Forward
 
 -- a forward, b back
-abbrev pub by_way : Direction → ℕ → ℕ → ℕ
+abbrev pub by_way : {A : Type 0} → Direction → A → A → A
 by_way Forward a b = a
 by_way Back a b = b

@@ -1,411 +1,341 @@
-// An instruction word attempted: its effect, or the number that refuses it. Nothing is written.
-ghost use Rattle.std.specs.Prelude.{◌≡◌, ◌+◌, ◌-◌, eqb, ltb, get_or, take};
+// An instruction word attempted: its effect, or why it is refused. Nothing is written. Whatever every word goes through is
+// inlined into the turn, which has several callers: as calls these functions halve the turns per second of a batch.
+ghost use Rattle.std.specs.Prelude.{◌≡◌, ◌+◌, ◌-◌, ltb, get_or, take, not};
 ghost use Rattle.std.specs.Int.Bits.{bit_xor};
 ghost use Rattle.word.specs.Word.{pick, sub_word, with_bit};
 ghost use Rattle.qins.specs.Decode.{operation, decode};
-ghost use Rattle.step.specs.View.{seen, nodes};
-ghost use Rattle.word.specs.Refusal.{refuse};
-ghost use Rattle.step.specs.Step.{shifted, when_ready, is_allowed, when_allowed, when_coin, child, enter, qif, pass, fiq, attempt};
+ghost use Rattle.step.specs.View.{view_in, links_in};
+ghost use Rattle.step.specs.Table.{link, w};
+ghost use Rattle.word.specs.Refusal.{refuse, refused_or};
+ghost use Rattle.step.specs.Step.{Attempt, shifted, is_ready, is_allowed, when_ready, when_allowed, when_coin, child, enter, qif, pass, fiq, attempt};
 
-use crate::lent::{look, word_at};
-use crate::reverse::{by, flip_of, index_by, shift};
-use crate::table::{CF, CL, NX, PR, W, first_child, is_paired, last_child, link_of};
-use crate::{Access, Attempt, Direction, Effect, Status};
-use qins::{alone, extended_word, names_both, names_none, names_one, names_three, names_two};
+use crate::table::{CF, CL, NX, PR, W, first_child, last_child};
+use crate::{Access, Attempt, Direction, Effect, Seen, Status};
+use qins::{
+    Fields, alone, extended_word, names_both, names_none, names_one, names_three, names_two,
+};
+use word::refusals::{Refusal, check};
 use word::signed::is_less;
 
 // ---- refusals
 
-pub fn refused_if(bad: bool, n: u32, rest: Attempt) -> Attempt
-    ensures { result ≡ refuse bad (Attempt.Refused n) rest }
-{
-    if bad { Attempt::Refused(n) } else { rest }
-}
+impl Status {
+    fn ready(self) -> Result<(), Refusal>
+        ensures { result ≡ refuse (not (is_ready self)) (Err Refusal.Waiting) (Ok tt) }
+    {
+        check(self.qifw == 0, Refusal::Waiting)
+    }
 
-// A call of its own, as word::choose is: known with the choice in it costs a turn two instructions in a hundred.
-fn chosen(test: bool, a: Attempt, b: Attempt) -> Attempt
-    ensures { result ≡ pick test a b }
-{
-    if test { a } else { b }
-}
-
-fn when_ready(at: Status, rest: Attempt) -> Attempt
-    ensures { result ≡ when_ready at rest }
-{
-    refused_if(at.qifw != 0, 14, rest)
-}
-
-fn is_allowed(x: Access, at: Status, i: u32) -> bool
-    ensures { result ≡ is_allowed x at i }
-{
-    match x {
-        Access::Copy => i < at.m,
-        Access::Exchange => word::both(at.k <= i, i < at.m),
+    fn allows(self, x: Access, i: u32) -> Result<(), Refusal>
+        ensures { result ≡ refuse (not (is_allowed x self i)) (Err Refusal.Address) (Ok tt) }
+    {
+        let allowed = match x {
+            Access::Copy => i < self.m,
+            Access::Exchange => self.k <= i && i < self.m,
+        };
+        check(allowed, Refusal::Address)
     }
 }
 
-fn when_allowed(x: Access, at: Status, i: u32, rest: Attempt) -> Attempt
-    ensures { result ≡ when_allowed x at i rest }
-{
-    refused_if(!is_allowed(x, at, i), 15, rest)
-}
+impl Seen<'_> {
+    // ---- changes of registers and of memory: a function of two or three lines for each kind. One over all would take a
+    // closure for what differs, which is all that each line says.
 
-fn when_coin(x: u32, rest: Attempt) -> Attempt
-    ensures { result ≡ when_coin x rest }
-{
-    refused_if(!(x <= 1), 16, rest)
-}
-
-// A register gets a word, or two do.
-fn write(at: Status, a: usize, v: u32) -> Attempt
-    ensures { result ≡ when_ready at (Attempt.Does (Effect.Write a v)) }
-{
-    when_ready(at, Attempt::Does(Effect::Write(a, v)))
-}
-
-fn write_two(at: Status, a: usize, v: u32, b: usize, y: u32) -> Attempt
-    ensures { result ≡ when_ready at (Attempt.Does (Effect.WriteTwo a v b y)) }
-{
-    when_ready(at, Attempt::Does(Effect::WriteTwo(a, v, b, y)))
-}
-
-fn nothing(at: Status) -> Attempt
-    ensures { result ≡ when_ready at (Attempt.Does Effect.Nothing) }
-{
-    when_ready(at, Attempt::Does(Effect::Nothing))
-}
-
-fn if_zero(x: u32, a: u32, b: u32) -> u32
-    ensures { result ≡ pick (eqb x 0) a b }
-{
-    word::choose(x == 0, a, b)
-}
-
-// A register exchanged with the word at i.
-fn exchange(at: Status, a: usize, i: u32) -> Attempt
-    ensures { result ≡ when_ready at (when_allowed Access.Exchange at i (Attempt.Does (Effect.SwapWord a i))) }
-{
-    when_ready(
-        at,
-        when_allowed(
-            Access::Exchange,
-            at,
-            i,
-            Attempt::Does(Effect::SwapWord(a, i)),
-        ),
-    )
-}
-
-// ---- qif, waiting and fiq
-
-fn enters(at: Status, table: &[u32], x: u32, u: u32) -> Attempt
-    ensures { result ≡ enter (nodes at table.now) at x u }
-{
-    let ok = is_paired(table, at.n, at.qifv, first_child(x), u, CF);
-    let w = link_of(table, at.n, u, W);
-    refused_if(!ok, 17, Attempt::Does(Effect::SetNode(u, w)))
-}
-
-fn as_child(at: Status, table: &[u32], x: u32, v: u32, rest: Attempt) -> Attempt
-    ensures { result ≡ child (nodes at table.now) at x v rest }
-{
-    let ok = is_paired(table, at.n, v, first_child(x), at.qifv, CF);
-    let w = link_of(table, at.n, at.qifv, W);
-    refused_if(!ok, 17, refused_if(w < at.qifw, 14, rest))
-}
-
-fn one_less(j: u32) -> u32
-    ensures { result ≡ j - 1 }
-{
-    if j == 0 { 0 } else { j - 1 }
-}
-
-// One cycle more to wait, or out of the qif's node to v.
-fn waits_or_leaves(at: Status, w: u32, v: u32) -> Effect
-    ensures { result ≡ pick (ltb at.qifw w) (Effect.SetNode at.qifv (at.qifw + 1)) (Effect.SetNode v 0) }
-{
-    let j = at.qifw;
-    if j < w {
-        Effect::SetNode(at.qifv, j + 1)
-    } else {
-        Effect::SetNode(v, 0)
+    #[tactic(auto, unfolding(word::specs::Refusal::refuse))]
+    fn write(self, a: usize, v: u32) -> Attempt
+        ensures { result ≡ when_ready self.entry.at (Ok (Effect.Write a v)) }
+    {
+        self.at.ready()?;
+        Ok(Effect::Write(a, v))
     }
-}
 
-// A wait and an entry read other links, so only one of them is attempted.
-fn attempt_qif(d: Direction, at: Status, table: &[u32], x: u32) -> Attempt
-    ensures { result ≡ qif (nodes at table.now) d at x }
-{
-    let v = link_of(table, at.n, at.qifv, CF);
-    match d {
-        Direction::Forward => {
-            if at.qifw == 0 {
-                return enters(at, table, x, link_of(table, at.n, at.qifv, first_child(x)));
+    // A register exchanged with the word at i.
+    #[tactic(auto, unfolding(word::specs::Refusal::refuse))]
+    fn exchange(self, a: usize, i: u32) -> Attempt
+        ensures { result ≡ when_ready self.entry.at (when_allowed Access.Exchange self.entry.at i (Ok (Effect.SwapWord a i))) }
+    {
+        self.at.ready()?;
+        self.at.allows(Access::Exchange, i)?;
+        Ok(Effect::SwapWord(a, i))
+    }
+
+    // The word at i xored into a register.
+    #[tactic(auto, unfolding(word::specs::Refusal::refuse))]
+    fn fetch(self, a: usize, i: u32) -> Attempt
+        ensures { result ≡ when_ready self.entry.at (when_allowed Access.Copy self.entry.at i
+            (Ok (Effect.Write a (bit_xor (get_or self.entry.regs.now a 0) (get_or (take self.entry.at.m self.entry.mem.now) i 0))))) }
+    {
+        self.at.ready()?;
+        self.at.allows(Access::Copy, i)?;
+        Ok(Effect::Write(a, self.reg(a) ^ self.word(i)))
+    }
+
+    #[tactic(auto, unfolding(word::specs::Refusal::refuse))]
+    fn nothing(self) -> Attempt
+        ensures { result ≡ when_ready self.entry.at (Ok Effect.Nothing) }
+    {
+        self.at.ready()?;
+        Ok(Effect::Nothing)
+    }
+
+    fn xor(self, a: usize, v: u32) -> Attempt
+        ensures { result ≡ when_ready self.entry.at (Ok (Effect.Write a (bit_xor (get_or self.entry.regs.now a 0) v))) }
+    {
+        self.write(a, self.reg(a) ^ v)
+    }
+
+    fn shift(self, d: Direction, a: usize, v: u32) -> Attempt
+        ensures { result ≡ when_ready self.entry.at (Ok (Effect.Write a (shifted d (get_or self.entry.regs.now a 0) v))) }
+    {
+        self.write(a, d.shift(self.reg(a), v))
+    }
+
+    fn negate(self, a: usize) -> Attempt
+        ensures { result ≡ when_ready self.entry.at (Ok (Effect.Write a (sub_word 0 (get_or self.entry.regs.now a 0)))) }
+    {
+        self.write(a, word::sub_word(0, self.reg(a)))
+    }
+
+    // Two registers are exchanged.
+    #[tactic(auto, unfolding(word::specs::Refusal::refuse))]
+    fn swap(self, a: usize, b: usize) -> Attempt
+        ensures { result ≡ when_ready self.entry.at (Ok (Effect.WriteTwo a (get_or self.entry.regs.now b 0) b (get_or self.entry.regs.now a 0))) }
+    {
+        self.at.ready()?;
+        Ok(Effect::WriteTwo(a, self.reg(b), b, self.reg(a)))
+    }
+
+    #[tactic(auto, unfolding(word::specs::Refusal::refuse))]
+    fn swap_bits(self, a: usize, b: usize) -> Attempt
+        ensures { result ≡ when_ready self.entry.at (Ok (Effect.WriteTwo a (with_bit (get_or self.entry.regs.now a 0) (get_or self.entry.regs.now b 0))
+            b (with_bit (get_or self.entry.regs.now b 0) (get_or self.entry.regs.now a 0)))) }
+    {
+        self.at.ready()?;
+        let x = self.reg(a);
+        let y = self.reg(b);
+        Ok(Effect::WriteTwo(a, word::with_bit(x, y), b, word::with_bit(y, x)))
+    }
+
+    // ---- qif, waiting and fiq
+
+    // From the present node to its child u for coin x.
+    #[tactic(auto, unfolding(word::specs::Refusal::refuse, crate::specs::Step::enter))]
+    fn enter(self, x: u32, u: u32) -> Attempt
+        ensures { result ≡ enter (links_in self.entry) self.entry.at x u }
+    {
+        check(
+            self.is_paired(self.at.qifv, first_child(x), u, CF),
+            Refusal::Node,
+        )?;
+        Ok(Effect::SetNode(u, self.link(u, W)))
+    }
+
+    // The present node is v's first child for coin x, and the wait count is at most its own.
+    #[tactic(auto, unfolding(word::specs::Refusal::refuse, crate::specs::Step::child))]
+    fn is_child(self, x: u32, v: u32) -> Result<(), Refusal>
+        ensures { (rest : Attempt) → refused_or result rest ≡ child (links_in self.entry) self.entry.at x v rest }
+    {
+        check(
+            self.is_paired(v, first_child(x), self.at.qifv, CF),
+            Refusal::Node,
+        )?;
+        if self.link(self.at.qifv, W) < self.at.qifw {
+            return Err(Refusal::Waiting);
+        }
+        Ok(())
+    }
+
+    // One cycle more to wait, or out of the qif's node to v.
+    fn waits_or_leaves(self, v: u32) -> Effect
+        ensures { result ≡ pick (ltb self.entry.at.qifw (link (links_in self.entry) self.entry.at.n self.entry.at.qifv w))
+            (Effect.SetNode self.entry.at.qifv (self.entry.at.qifw + 1)) (Effect.SetNode v 0) }
+    {
+        let at = self.at;
+        if at.qifw < self.link(at.qifv, W) {
+            Effect::SetNode(at.qifv, at.qifw + 1)
+        } else {
+            Effect::SetNode(v, 0)
+        }
+    }
+
+    #[tactic(auto, unfolding(crate::specs::Step::qif))]
+    #[inline(always)]
+    fn qif(self, d: Direction, x: u32) -> Attempt
+        ensures { result ≡ qif (links_in self.entry) d self.entry.at x }
+    {
+        let at = self.at;
+        match d {
+            Direction::Forward if at.qifw == 0 => self.enter(x, self.link(at.qifv, first_child(x))),
+            Direction::Forward => {
+                self.is_child(x, self.link(at.qifv, CF))?;
+                Ok(Effect::SetNode(at.qifv, at.qifw.saturating_sub(1)))
             }
-            let next = Effect::SetNode(at.qifv, one_less(at.qifw));
-            as_child(at, table, x, v, Attempt::Does(next))
-        }
-        Direction::Back => {
-            let w = link_of(table, at.n, at.qifv, W);
-            as_child(at, table, x, v, Attempt::Does(waits_or_leaves(at, w, v)))
+            Direction::Back => {
+                let v = self.link(at.qifv, CF);
+                self.is_child(x, v)?;
+                Ok(self.waits_or_leaves(v))
+            }
         }
     }
-}
 
-fn passes(at: Status, table: &[u32], x: u32, v: u32, p: u32, u: u32, y: u32) -> Attempt
-    ensures { result ≡ pass (nodes at table.now) at x v p u y }
-{
-    let last = is_paired(table, at.n, p, last_child(x), v, CL);
-    let next = is_paired(table, at.n, p, NX, u, PR);
-    refused_if(
-        !word::both(last, next),
-        17,
-        Attempt::Does(Effect::SetNode(y, at.qifw)),
-    )
-}
+    // From node v, p's last child for coin x, to u, next to p; y is the one that it leads to.
+    #[tactic(auto, unfolding(word::specs::Refusal::refuse, crate::specs::Step::pass))]
+    #[inline(always)]
+    fn pass(self, x: u32, v: u32, p: u32, u: u32, y: u32) -> Attempt
+        ensures { result ≡ pass (links_in self.entry) self.entry.at x v p u y }
+    {
+        let last = self.is_paired(p, last_child(x), v, CL);
+        check(last && self.is_paired(p, NX, u, PR), Refusal::Node)?;
+        Ok(Effect::SetNode(y, self.at.qifw))
+    }
 
-// One call of passes for both directions, so that it is inlined: p is the node above, y the node led to.
-fn attempt_fiq(d: Direction, at: Status, table: &[u32], x: u32) -> Attempt
-    ensures { result ≡ fiq (nodes at table.now) d at x }
-{
-    let p = link_of(table, at.n, at.qifv, index_by(d, CL, PR));
-    let y = link_of(table, at.n, p, index_by(d, NX, last_child(x)));
-    let v = by(d, at.qifv, y);
-    let u = by(d, y, at.qifv);
-    passes(at, table, x, v, p, u, y)
-}
+    #[tactic(auto, unfolding(crate::specs::Step::fiq))]
+    #[inline(always)]
+    fn fiq(self, d: Direction, x: u32) -> Attempt
+        ensures { result ≡ fiq (links_in self.entry) d self.entry.at x }
+    {
+        let here = self.at.qifv;
+        match d {
+            Direction::Forward => {
+                let p = self.link(here, CL);
+                let u = self.link(p, NX);
+                self.pass(x, here, p, u, u)
+            }
+            Direction::Back => {
+                let p = self.link(here, PR);
+                let v = self.link(p, last_child(x));
+                self.pass(x, v, p, here, v)
+            }
+        }
+    }
 
-fn qif_at(d: Direction, at: Status, regs: &[u32], table: &[u32], a: usize) -> Attempt
-    ensures { result ≡ when_coin (get_or regs.now a 0) (qif (nodes at table.now) d at (get_or regs.now a 0)) }
-{
-    let x = look(regs, a);
-    when_coin(x, attempt_qif(d, at, table, x))
-}
+    #[tactic(auto, unfolding(word::specs::Refusal::refuse))]
+    #[inline(always)]
+    fn qif_by(self, d: Direction, a: usize) -> Attempt
+        ensures { result ≡ when_coin (get_or self.entry.regs.now a 0) (qif (links_in self.entry) d self.entry.at (get_or self.entry.regs.now a 0)) }
+    {
+        let x = self.reg(a);
+        check(x <= 1, Refusal::Coin)?;
+        self.qif(d, x)
+    }
 
-fn fiq_at(d: Direction, at: Status, regs: &[u32], table: &[u32], a: usize) -> Attempt
-    ensures { result ≡ when_ready at (when_coin (get_or regs.now a 0) (fiq (nodes at table.now) d at (get_or regs.now a 0))) }
-{
-    let x = look(regs, a);
-    when_ready(at, when_coin(x, attempt_fiq(d, at, table, x)))
-}
-
-// ---- changes of registers
-
-fn xor_into(at: Status, regs: &[u32], a: usize, v: u32) -> Attempt
-    ensures { result ≡ when_ready at (Attempt.Does (Effect.Write a (bit_xor (get_or regs.now a 0) v))) }
-{
-    write(at, a, word::xor_word(look(regs, a), v))
-}
-
-fn shift_into(d: Direction, at: Status, regs: &[u32], a: usize, v: u32) -> Attempt
-    ensures { result ≡ when_ready at (Attempt.Does (Effect.Write a (shifted d (get_or regs.now a 0) v))) }
-{
-    write(at, a, shift(d, look(regs, a), v))
-}
-
-fn negate(at: Status, regs: &[u32], a: usize) -> Attempt
-    ensures { result ≡ when_ready at (Attempt.Does (Effect.Write a (sub_word 0 (get_or regs.now a 0)))) }
-{
-    write(at, a, word::sub_word(0, look(regs, a)))
-}
-
-fn swap(at: Status, regs: &[u32], a: usize, b: usize) -> Attempt
-    ensures { result ≡ when_ready at (Attempt.Does (Effect.WriteTwo a (get_or regs.now b 0) b (get_or regs.now a 0))) }
-{
-    write_two(at, a, look(regs, b), b, look(regs, a))
-}
-
-fn swap_bits(at: Status, regs: &[u32], a: usize, b: usize) -> Attempt
-    ensures { result ≡ when_ready at (Attempt.Does (Effect.WriteTwo a (with_bit (get_or regs.now a 0) (get_or regs.now b 0))
-        b (with_bit (get_or regs.now b 0) (get_or regs.now a 0)))) }
-{
-    let x = look(regs, a);
-    let z = look(regs, b);
-    write_two(at, a, word::with_bit(x, z), b, word::with_bit(z, x))
-}
-
-// The word at i xored into a register.
-fn fetch(at: Status, regs: &[u32], mem: &[u32], a: usize, i: u32) -> Attempt
-    ensures { result ≡ when_ready at (when_allowed Access.Copy at i (Attempt.Does (Effect.Write a (bit_xor (get_or regs.now a 0) (get_or (take at.m mem.now) i 0))))) }
-{
-    let v = word::xor_word(look(regs, a), word_at(mem, at.m, i));
-    when_ready(
-        at,
-        when_allowed(Access::Copy, at, i, Attempt::Does(Effect::Write(a, v))),
-    )
+    #[tactic(auto, unfolding(word::specs::Refusal::refuse))]
+    #[inline(always)]
+    fn fiq_by(self, d: Direction, a: usize) -> Attempt
+        ensures { result ≡ when_ready self.entry.at (when_coin (get_or self.entry.regs.now a 0) (fiq (links_in self.entry) d self.entry.at (get_or self.entry.regs.now a 0))) }
+    {
+        let x = self.reg(a);
+        self.at.ready()?;
+        check(x <= 1, Refusal::Coin)?;
+        self.fiq(d, x)
+    }
 }
 
 // ---- every instruction word, by its fields. It is executed as it is decoded: the operation that
 // decode gives is not built, which a turn would pay for.
 
-fn known(test: bool, x: Attempt) -> Attempt
-    ensures { result ≡ pick test x (Attempt.Refused 13) }
-{
-    chosen(test, x, Attempt::Refused(13))
-}
-
-fn attempt_unib(
-    d: Direction,
-    a: usize,
-    b: usize,
-    i: u32,
-    at: Status,
-    regs: &[u32],
-    mem: &[u32],
-    table: &[u32],
-) -> Attempt
-    ensures { result ≡ attempt (nodes at table.now) d (operation 33 a b i) (seen at regs.now mem.now) }
-{
-    match i {
-        256 => known(
-            names_both(a, b),
-            xor_into(at, regs, b, word::low_bit(look(regs, a))),
-        ),
-        512 => known(names_both(a, b), swap_bits(at, regs, a, b)),
-        _ => Attempt::Refused(13),
+impl Seen<'_> {
+    #[tactic(auto, unfolding(qins::specs::Decode::operation, qins::specs::Decode::line, crate::specs::Step::attempt, crate::specs::Step::value))]
+    #[inline(always)]
+    fn unib(self, f: Fields) -> Attempt
+        ensures { (d : Direction) → result ≡ attempt (links_in self.entry) d (operation 33 f.a f.b f.i) (view_in self.entry) }
+    {
+        let Fields { a, b, i, .. } = f;
+        match i {
+            256 if names_both(a, b) => self.xor(b, self.reg(a) % 2),
+            512 if names_both(a, b) => self.swap_bits(a, b),
+            _ => Err(Refusal::Instruction),
+        }
     }
-}
 
-fn attempt_ari(
-    d: Direction,
-    a: usize,
-    b: usize,
-    i: u32,
-    at: Status,
-    regs: &[u32],
-    mem: &[u32],
-    table: &[u32],
-) -> Attempt
-    ensures { result ≡ attempt (nodes at table.now) d (operation 34 a b i) (seen at regs.now mem.now) }
-{
-    match i {
-        256 => known(
-            names_two(a, b),
-            xor_into(at, regs, a, word::sub_word(0, look(regs, b))),
-        ),
-        512 => known(
-            names_two(a, b),
-            xor_into(at, regs, a, word::complement_of(look(regs, b))),
-        ),
-        _ => Attempt::Refused(13),
+    #[tactic(auto, unfolding(qins::specs::Decode::operation, qins::specs::Decode::line, crate::specs::Step::attempt, crate::specs::Step::value))]
+    #[inline(always)]
+    fn ari(self, f: Fields) -> Attempt
+        ensures { (d : Direction) → result ≡ attempt (links_in self.entry) d (operation 34 f.a f.b f.i) (view_in self.entry) }
+    {
+        let Fields { a, b, i, .. } = f;
+        match i {
+            256 if names_two(a, b) => self.xor(a, word::sub_word(0, self.reg(b))),
+            512 if names_two(a, b) => self.xor(a, !self.reg(b)),
+            _ => Err(Refusal::Instruction),
+        }
     }
-}
 
-fn attempt_arib(
-    d: Direction,
-    a: usize,
-    b: usize,
-    i: u32,
-    at: Status,
-    regs: &[u32],
-    mem: &[u32],
-    table: &[u32],
-) -> Attempt
-    ensures { result ≡ attempt (nodes at table.now) d (operation 35 a b i) (seen at regs.now mem.now) }
-{
-    let c = (i / 4096) as usize;
-    let x = look(regs, b);
-    let y = look(regs, c);
-    let p = i % 4096;
-    match p {
-        256 => known(
-            names_three(a, b, c),
-            xor_into(at, regs, a, word::add_word(x, y)),
-        ),
-        512 => known(
-            names_three(a, b, c),
-            xor_into(at, regs, a, word::mul_word(x, y)),
-        ),
-        768 => known(
-            names_three(a, b, c),
-            xor_into(at, regs, a, word::div_word(x, y)),
-        ),
-        1024 => known(
-            names_three(a, b, c),
-            xor_into(at, regs, a, word::choose(x == y, 1, 0)),
-        ),
-        1280 => known(
-            names_three(a, b, c),
-            xor_into(at, regs, a, word::choose(is_less(x, y), 1, 0)),
-        ),
-        _ => Attempt::Refused(13),
+    #[tactic(auto, unfolding(qins::specs::Decode::operation, qins::specs::Decode::line, crate::specs::Step::attempt, crate::specs::Step::value))]
+    #[inline(always)]
+    fn arib(self, f: Fields) -> Attempt
+        ensures { (d : Direction) → result ≡ attempt (links_in self.entry) d (operation 35 f.a f.b f.i) (view_in self.entry) }
+    {
+        let Fields { a, b, i, .. } = f;
+        let c = (i / 4096) as usize;
+        if !names_three(a, b, c) {
+            return Err(Refusal::Instruction);
+        }
+        let x = self.reg(b);
+        let y = self.reg(c);
+        match i % 4096 {
+            256 => self.xor(a, word::add_word(x, y)),
+            512 => self.xor(a, word::mul_word(x, y)),
+            768 => self.xor(a, word::div_word(x, y)),
+            1024 => self.xor(a, u32::from(x == y)),
+            1280 => self.xor(a, u32::from(is_less(x, y))),
+            _ => Err(Refusal::Instruction),
+        }
     }
-}
 
-fn attempt_fields(
-    d: Direction,
-    o: u32,
-    a: usize,
-    b: usize,
-    i: u32,
-    at: Status,
-    regs: &[u32],
-    mem: &[u32],
-    table: &[u32],
-) -> Attempt
-    ensures { result ≡ attempt (nodes at table.now) d (operation o a b i) (seen at regs.now mem.now) }
-{
-    match o {
-        1 => known(names_one(a, b), exchange(at, a, i)),
-        2 => known(names_one(a, b), xor_into(at, regs, a, i)),
-        3 => known(names_one(a, b), shift_into(d, at, regs, a, i)),
-        4 => known(names_one(a, b), shift_into(flip_of(d), at, regs, a, i)),
-        5 => known(names_none(a, b), xor_into(at, regs, 1, extended_word(i))),
-        6 => known(
-            names_one(a, b),
-            xor_into(at, regs, 1, if_zero(look(regs, a), extended_word(i), 0)),
-        ),
-        7 => known(
-            names_one(a, b),
-            xor_into(at, regs, 1, if_zero(look(regs, a), 0, extended_word(i))),
-        ),
-        16 => known(alone(names_two(a, b), i), exchange(at, a, look(regs, b))),
-        17 => known(
-            alone(names_two(a, b), i),
-            fetch(at, regs, mem, a, look(regs, b)),
-        ),
-        18 => known(alone(names_both(a, b), i), swap(at, regs, a, b)),
-        19 => known(
-            alone(names_two(a, b), i),
-            xor_into(at, regs, a, look(regs, b)),
-        ),
-        20 => known(
-            alone(names_two(a, b), i),
-            shift_into(d, at, regs, a, look(regs, b)),
-        ),
-        21 => known(
-            alone(names_two(a, b), i),
-            shift_into(flip_of(d), at, regs, a, look(regs, b)),
-        ),
-        22 => known(alone(names_one(a, b), i), negate(at, regs, a)),
-        23 => known(alone(names_one(a, b), i), swap(at, regs, a, 1)),
-        24 => known(alone(names_one(a, b), i), qif_at(d, at, regs, table, a)),
-        25 => known(alone(names_one(a, b), i), fiq_at(d, at, regs, table, a)),
-        26 => known(alone(names_none(a, b), i), nothing(at)),
-        27 => known(alone(names_none(a, b), i), nothing(at)),
-        32 => known(
-            word::both(i == 256, names_one(a, b)),
-            xor_into(at, regs, a, 1),
-        ),
-        33 => attempt_unib(d, a, b, i, at, regs, mem, table),
-        34 => attempt_ari(d, a, b, i, at, regs, mem, table),
-        35 => attempt_arib(d, a, b, i, at, regs, mem, table),
-        _ => Attempt::Refused(13),
+    #[tactic(auto, unfolding(qins::specs::Decode::operation, qins::specs::Decode::line, crate::specs::Step::attempt, crate::specs::Step::value))]
+    #[inline(always)]
+    fn by_fields(self, d: Direction, f: Fields) -> Attempt
+        ensures { result ≡ attempt (links_in self.entry) d (operation f.o f.a f.b f.i) (view_in self.entry) }
+    {
+        let Fields { o, a, b, i } = f;
+        match o {
+            1 if names_one(a, b) => self.exchange(a, i),
+            2 if names_one(a, b) => self.xor(a, i),
+            3 if names_one(a, b) => self.shift(d, a, i),
+            4 if names_one(a, b) => self.shift(d.flip(), a, i),
+            5 if names_none(a, b) => self.xor(1, extended_word(i)),
+            6 if names_one(a, b) => self.xor(
+                1,
+                if self.reg(a) == 0 {
+                    extended_word(i)
+                } else {
+                    0
+                },
+            ),
+            7 if names_one(a, b) => self.xor(
+                1,
+                if self.reg(a) == 0 {
+                    0
+                } else {
+                    extended_word(i)
+                },
+            ),
+            16 if alone(names_two(a, b), i) => self.exchange(a, self.reg(b)),
+            17 if alone(names_two(a, b), i) => self.fetch(a, self.reg(b)),
+            18 if alone(names_both(a, b), i) => self.swap(a, b),
+            19 if alone(names_two(a, b), i) => self.xor(a, self.reg(b)),
+            20 if alone(names_two(a, b), i) => self.shift(d, a, self.reg(b)),
+            21 if alone(names_two(a, b), i) => self.shift(d.flip(), a, self.reg(b)),
+            22 if alone(names_one(a, b), i) => self.negate(a),
+            23 if alone(names_one(a, b), i) => self.swap(a, 1),
+            24 if alone(names_one(a, b), i) => self.qif_by(d, a),
+            25 if alone(names_one(a, b), i) => self.fiq_by(d, a),
+            26 | 27 if alone(names_none(a, b), i) => self.nothing(),
+            32 if i == 256 && names_one(a, b) => self.xor(a, 1),
+            33 => self.unib(f),
+            34 => self.ari(f),
+            35 => self.arib(f),
+            _ => Err(Refusal::Instruction),
+        }
     }
-}
 
-// What the word w would do, or why it is refused.
-pub fn attempt(
-    d: Direction,
-    w: u32,
-    at: Status,
-    regs: &[u32],
-    mem: &[u32],
-    table: &[u32],
-) -> Attempt
-    ensures { result ≡ attempt (nodes at table.now) d (decode w) (seen at regs.now mem.now) }
-{
-    let a = (w / 1048576 % 16) as usize;
-    let b = (w / 65536 % 16) as usize;
-    attempt_fields(d, w / 16777216, a, b, w % 65536, at, regs, mem, table)
+    // What the word w would do, or why it is refused.
+    #[inline(always)]
+    #[tactic(auto, unfolding(qins::specs::Decode::decode))]
+    pub fn attempt(self, d: Direction, w: u32) -> Attempt
+        ensures { result ≡ attempt (links_in self.entry) d (decode w) (view_in self.entry) }
+    {
+        self.by_fields(d, Fields::from(w))
+    }
 }

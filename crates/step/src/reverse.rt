@@ -5,40 +5,34 @@ ghost use Rattle.step.specs.Step.{shifted};
 
 use crate::Direction;
 
-pub fn flip_of(d: Direction) -> Direction
-    ensures { result ≡ flip d }
-{
-    match d {
-        Direction::Forward => Direction::Back,
-        Direction::Back => Direction::Forward,
+impl Direction {
+    pub fn flip(self) -> Direction
+        ensures { result ≡ flip self }
+    {
+        match self {
+            Direction::Forward => Direction::Back,
+            Direction::Back => Direction::Forward,
+        }
     }
-}
 
-// x plus v, or less v on the way back.
-pub fn shift(d: Direction, x: u32, v: u32) -> u32
-    ensures { result ≡ shifted d x v }
-{
-    match d {
-        Direction::Forward => word::add_word(x, v),
-        Direction::Back => word::sub_word(x, v),
+    // One thing forward, another back.
+    pub fn pick<T: Copy>(self, forward: T, back: T) -> T
+        ensures { result ≡ by_way self forward back }
+    {
+        match self {
+            Direction::Forward => forward,
+            Direction::Back => back,
+        }
     }
-}
 
-// a forward, b back.
-pub fn by(d: Direction, a: u32, b: u32) -> u32
-    ensures { result ≡ by_way d a b }
-{
-    match d {
-        Direction::Forward => a,
-        Direction::Back => b,
-    }
-}
-
-pub fn index_by(d: Direction, a: usize, b: usize) -> usize
-    ensures { result ≡ by_way d a b }
-{
-    match d {
-        Direction::Forward => a,
-        Direction::Back => b,
+    // x plus v, or less v on the way back.
+    #[tactic(auto, unfolding(word::specs::Word::add_word, word::specs::Word::sub_word))]
+    pub fn shift(self, x: u32, v: u32) -> u32
+        ensures { result ≡ shifted self x v }
+    {
+        match self {
+            Direction::Forward => x.wrapping_add(v),
+            Direction::Back => x.wrapping_sub(v),
+        }
     }
 }
