@@ -20,12 +20,14 @@ use Rattle.step.specs.declared.Direction.TheVariants.{Forward, Back}
 use Rattle.step.specs.declared.Access.{Access}
 use Rattle.step.specs.declared.Effect.{Effect}
 use Rattle.step.specs.declared.Effect.TheVariants.{Write, SwapWord}
-use Rattle.step.specs.declared.Attempt.{Attempt}
-use Rattle.step.specs.declared.Attempt.TheVariants.{Refused, Does}
+use Rattle.step.specs.Step.{Attempt}
+use Rattle.std.specs.Prelude.{Err, Ok}
 use Rattle.step.specs.View.{View, reg, by_way}
 use Rattle.step.specs.Sizes.{bad_sizes}
 use Rattle.word.specs.Refusal.{refuse}
-use Rattle.step.specs.Step.{performed, number, is_ready, when_ready, is_allowed, when_allowed, attempt}
+use Rattle.step.specs.Step.{performed, is_ready, when_ready, is_allowed, when_allowed, attempt}
+use Rattle.word.specs.Refusal.{number_of, number}
+use Rattle.word.specs.declared.refusals.Refusal.{Refusal}
 use Rattle.step.specs.Claims.{Accesses, Within}
 use Rattle.step.specs.Claims.Accesses.{copies, exchanges}
 use Rattle.step.proofs.Addresses.{allowed_within}
@@ -42,17 +44,19 @@ use Rattle.machine.proofs.Room.{last_end}
 use Rattle.machine.proofs.Inverse.{and_false}
 use Rattle.machine.proofs.Effects.{after_effect, effected}
 use Rattle.machine.proofs.Whole.{end_last}
+use Rattle.machine.proofs.Shown.{reported_refusal}
+use Rattle.word.specs.declared.refusals.Refusal.TheVariants.{Outside, Waiting, Address, Landing, End, Position, Sizes}
 
 -- ---- a refusal, by what its test means
 
-rule : (b : Bool) (P : Type 0) → (b ≡ true → P) → (b ≡ false → P → ⊥) → (k : ℕ) (rest : Attempt) (R : ℕ → Type 0) → (b ≡ false → R (number rest))
-    → given P k R (number (refuse b (Refused k) rest))
+rule : (b : Bool) (P : Type 0) → (b ≡ true → P) → (b ≡ false → P → ⊥) → (k : Refusal) (rest : Attempt) (R : ℕ → Type 0) → (b ≡ false → R (number rest))
+    → given P (number_of k) R (number (refuse b (Err k) rest))
 unfolding refuse
 rule true P y n k rest R h = inl (y refl, refl)
 rule false P y n k rest R h = inr (n refl, h refl)
 
 -- one that does not stand
-skip : (b : Bool) (k : ℕ) (rest : Attempt) (R : ℕ → Type 0) → b ≡ false → R (number rest) → R (number (refuse b (Refused k) rest))
+skip : (b : Bool) (k : Refusal) (rest : Attempt) (R : ℕ → Type 0) → b ≡ false → R (number rest) → R (number (refuse b (Err k) rest))
 unfolding refuse
 skip true k rest R e h = absurd (true≢false e)
 skip false k rest R e h = h
@@ -60,7 +64,7 @@ skip false k rest R e h = h
 not_back : Forward ≡ Back → ⊥
 not_back e = let z : ◌≡◌ {A = ℕ} 0 1 = ap (λ (d : Direction). by_way d 0 1) e in omega arith
 
-landed_refuse : (d : Direction) (s : View) (b : Bool) (k : ℕ) (x : Attempt) → landed d s (refuse b (Refused k) x) ≡ refuse b (Refused k) (landed d s x)
+landed_refuse : (d : Direction) (s : View) (b : Bool) (k : Refusal) (x : Attempt) → landed d s (refuse b (Err k) x) ≡ refuse b (Err k) (landed d s x)
 unfolding landed refuse
 landed_refuse Forward s true k x = refl
 landed_refuse Forward s false k x = refl
@@ -84,9 +88,9 @@ module _ (t : List ℕ) (old : ℕ) (s : View) (Q : Type 0) (R : ℕ → Type 0)
   abbrev Wrong : Type 0
   Wrong = bad_sizes s.at s.memory t ≡ true
 
-  no_code : (y : Attempt) → R (number y) → R11 (number (refuse (not (is_code s.at (pc s))) (Refused 11) y))
+  no_code : (y : Attempt) → R (number y) → R11 (number (refuse (not (is_code s.at (pc s))) (Err Outside) y))
   no_code y h =
-      rule _ (s.at.k ≤ pc s) (λ z. ltb-false _ _ (not-true _ z)) (λ z p. omega (arith, p, ltb-true (pc s) s.at.k (not_not _ z))) 11 y R (λ _. h)
+      rule _ (s.at.k ≤ pc s) (λ z. ltb-false _ _ (not-true _ z)) (λ z p. omega (arith, p, ltb-true (pc s) s.at.k (not_not _ z))) Outside y R (λ _. h)
 
   starting : is_ready s.at && starts s.at s.memory old ≡ true → Start Back
   starting z = let p = and_true _ _ z in (refl, eqb-true _ 0 p.0, p.1)
@@ -98,23 +102,23 @@ module _ (t : List ℕ) (old : ℕ) (s : View) (Q : Type 0) (R : ℕ → Type 0)
       → finishes s.memory (pc s) ≡ false → R (number y) → given Wrong 10 (R21 d) (number (judged t d last old s y))
   unfolding judged
   judged_rule Forward last y l n f h =
-      rule _ Wrong (λ z. z) (λ z p. true≢false (sym p ∙ z)) 10 _ (R21 Forward) (λ _.
-      rule last Q l n 21 _ (R12 Forward) (λ _.
-      inr (λ p. not_back p.0, no_code _ (skip _ 12 y R f h))))
+      rule _ Wrong (λ z. z) (λ z p. true≢false (sym p ∙ z)) Sizes _ (R21 Forward) (λ _.
+      rule last Q l n Position _ (R12 Forward) (λ _.
+      inr (λ p. not_back p.0, no_code _ (skip _ End y R f h))))
   judged_rule Back last y l n f h =
-      rule _ Wrong (λ z. z) (λ z p. true≢false (sym p ∙ z)) 10 _ (R21 Back) (λ _.
-      rule last Q l n 21 _ (R12 Back) (λ _.
-      rule _ (Start Back) starting (λ z p. true≢false (sym (started p) ∙ z)) 12 _ R11 (λ _.
-      no_code _ (skip _ 18 y R (ap (λ (b : Bool). is_ready s.at && b) f ∙ and_false (is_ready s.at)) h))))
+      rule _ Wrong (λ z. z) (λ z p. true≢false (sym p ∙ z)) Sizes _ (R21 Back) (λ _.
+      rule last Q l n Position _ (R12 Back) (λ _.
+      rule _ (Start Back) starting (λ z p. true≢false (sym (started p) ∙ z)) End _ R11 (λ _.
+      no_code _ (skip _ Landing y R (ap (λ (b : Bool). is_ready s.at && b) f ∙ and_false (is_ready s.at)) h))))
 
 -- and 18 behind it, where it is done
 landed_rule : (d : Direction) (s : View) (e : Effect) (b : Bool)
     → (d ≡ Forward → is_ready (performed e s).at && starts s.at s.memory (new_pc Forward (performed e s)) ≡ b) → (d ≡ Back → b ≡ false)
-    → given (b ≡ true) 18 (λ n. n ≡ 0) (number (landed d s (Does e)))
+    → given (b ≡ true) 18 (λ n. n ≡ 0) (number (landed d s (Ok e)))
 unfolding landed
 landed_rule Forward s e b f h =
-    subst (λ (c : Bool). given (b ≡ true) 18 (λ n. n ≡ 0) (number (refuse c (Refused 18) (Does e)))) (sym (f refl))
-    (rule b (b ≡ true) (λ z. z) (λ z p. true≢false (sym p ∙ z)) 18 (Does e) (λ n. n ≡ 0) (λ _. refl))
+    subst (λ (c : Bool). given (b ≡ true) 18 (λ n. n ≡ 0) (number (refuse c (Err Landing) (Ok e)))) (sym (f refl))
+    (rule b (b ≡ true) (λ z. z) (λ z p. true≢false (sym p ∙ z)) Landing (Ok e) (λ n. n ≡ 0) (λ _. refl))
 landed_rule Back s e b f h = inr (λ p. true≢false (sym p ∙ h refl), refl)
 
 -- ---- an access
@@ -125,7 +129,7 @@ effect_of Access.Exchange s a i = SwapWord a i
 
 module _ (s : View) where
   attempt_is : (t : List ℕ) (d : Direction) (o : Op) (x : Access) (a i : ℕ) → Accesses s o x a i
-      → attempt t d o s ≡ when_ready s.at (when_allowed x s.at i (Does (effect_of x s a i)))
+      → attempt t d o s ≡ when_ready s.at (when_allowed x s.at i (Ok (effect_of x s a i)))
   unfolding attempt
   attempt_is t d o x r i (copies a b) = refl
   attempt_is t d o x r i (exchanges a v) = refl
@@ -186,10 +190,10 @@ module _ (d : Direction) (x : Machine) (g : Bounded x) (k : Access) (a i : ℕ) 
       ∙ (ap (starts s.at s.memory) (get_or-set_other s.regs a 0 _ 0 (omega (arith, access_named s (present s) k a i e (decode_formed _))))
       ∙ no_start)
 
-  own_is : landed d s (executed t d s) ≡ refuse (not (is_ready (status_of r))) (Refused 14) (refuse (not (is_allowed k (status_of r) i)) (Refused 15) (landed d s (Does does)))
+  own_is : landed d s (executed t d s) ≡ refuse (not (is_ready (status_of r))) (Err Waiting) (refuse (not (is_allowed k (status_of r) i)) (Err Address) (landed d s (Ok does)))
   own_is =
       ap (landed d s) (attempt_is s t d (present s) k a i e)
-      ∙ (landed_refuse d s _ 14 _ ∙ ap (refuse (not (is_ready (status_of r))) (Refused 14)) (landed_refuse d s _ 15 _))
+      ∙ (landed_refuse d s _ Waiting _ ∙ ap (refuse (not (is_ready (status_of r))) (Err Waiting)) (landed_refuse d s _ Address _))
 
   abbrev Own18 : ℕ → Type 0
   Own18 = given (land ≡ true) 18 (λ n. n ≡ 0)
@@ -206,8 +210,8 @@ module _ (d : Direction) (x : Machine) (g : Bounded x) (k : Access) (a i : ℕ) 
   own : Own (number (landed d s (executed t d s)))
   own =
       subst (λ (y : Attempt). Own (number y)) (sym own_is)
-      (rule _ (r.qifw ≢ 0) (λ z. eqb-false _ 0 (not-true _ z)) (λ z p. p (eqb-true _ 0 (not_not _ z))) 14 _ Own15 (λ z.
-      rule _ (Within k (status_of r) i → ⊥) (λ y w. true≢false (sym (within.1 w) ∙ not-true _ y)) (λ y p. p (within.0 (not_not _ y))) 15 _ Own18 (λ _.
+      (rule _ (r.qifw ≢ 0) (λ z. eqb-false _ 0 (not-true _ z)) (λ z p. p (eqb-true _ 0 (not_not _ z))) Waiting _ Own15 (λ z.
+      rule _ (Within k (status_of r) i → ⊥) (λ y w. true≢false (sym (within.1 w) ∙ not-true _ y)) (λ y p. p (within.0 (not_not _ y))) Address _ Own18 (λ _.
       landed_rule d s does land (ahead (not_not _ z)) behind)))
 
   at_access : AtAccess d x k a i (number (plan_of d x))
@@ -216,8 +220,8 @@ module _ (d : Direction) (x : Machine) (g : Bounded x) (k : Access) (a i : ℕ) 
       (last_end d r.position g.position) (λ z p. true≢false (sym (ap (is_last d) p ∙ end_last d) ∙ z)) no_finish own
 
   -- an accepted one
-  own_does : (f : Effect) → executed t d s ≡ Does f → Does does ≡ Does f
-  own_does f q = (passed _ 15 _ (passed _ 14 _ (sym (attempt_is s t d (present s) k a i e) ∙ q)).1).1
+  own_does : (f : Effect) → executed t d s ≡ Ok f → ◌≡◌ {A = Attempt} (Ok does) (Ok f)
+  own_does f q = (passed _ Address _ (passed _ Waiting _ (sym (attempt_is s t d (present s) k a i e) ∙ q)).1).1
 
   left_is : (k : Access) → after_effect d x (effect_of k s a i) ≡ after_access d x k a i
   left_is Access.Copy = refl
@@ -229,7 +233,7 @@ module _ (d : Direction) (x : Machine) (g : Bounded x) (k : Access) (a i : ℕ) 
 pub by_access : ByAccess
 by_access d x n (turn m y p) k a i e = subst (AtAccess d x k a i) (sym p.refusal) (at_access d x p.bounds k a i e)
 by_access d x n (preview q p) k a i e =
-    subst (AtAccess d x k a i) (sym (ap (λ (u : Preview). u.refusal) p.answer)) (at_access d x p.bounds k a i e)
+    subst (AtAccess d x k a i) (sym (ap (λ (u : Preview). u.refusal) p.answer ∙ reported_refusal _ _ _)) (at_access d x p.bounds k a i e)
 
 pub access_made : AccessMade
 access_made d x y n p h k a i e = p.left ∙ did d x p.bounds k a i e (sym p.refusal ∙ h)

@@ -10,12 +10,12 @@ use mir.Val.{SFits}
 use Rattle.step.specs.declared.Status.{Status}
 use Rattle.step.specs.declared.Direction.{Direction}
 use Rattle.step.specs.declared.Direction.TheVariants.{Forward, Back}
-use Rattle.step.specs.declared.Attempt.{Attempt}
-use Rattle.step.specs.declared.Attempt.TheVariants.{Refused, Does}
+use Rattle.step.specs.Step.{Attempt}
+use Rattle.std.specs.Prelude.{Err, Ok}
 use Rattle.step.specs.View.{View, Bounds, flip}
 use Rattle.step.proofs.Views.{seam_take, seam_drop, seam_long}
 use Rattle.step.proofs.Sized.{SameSizes, marked_sizes}
-use Rattle.step.specs.Step.{number}
+use Rattle.word.specs.Refusal.{number}
 use Rattle.machine.specs.Turn.{planned, turned}
 use Rattle.machine.specs.Position.{is_last, advanced, position_after}
 use Rattle.machine.specs.Machine.{status_of, updated, Machine, left_as, State, state_of, excess_of, view_in, view_of, Bounded}
@@ -38,8 +38,8 @@ same_status_lem r p at regs z =
     λ j. record { qifv = at.qifv; qifw = at.qifw; k = k j; m = m j; n = n j }
 
 pub turned_sizes : (d : Direction) (x : Attempt) (s : View) → SameSizes s.at (turned d x s).at
-turned_sizes d (Refused n) s = record { k = refl; m = refl; n = refl }
-turned_sizes d (Does e) s = marked_sizes e s.at
+turned_sizes d (Err n) s = record { k = refl; m = refl; n = refl }
+turned_sizes d (Ok e) s = marked_sizes e s.at
 
 -- ---- a turn of a state alone
 
@@ -106,7 +106,7 @@ module _ (d : Direction) (x : Machine) where
     next_position = ap (λ (a : Attempt). position_after d a p) effect.is
 
   module _ (g : Bounded x) (h : refusal d x ≡ 0) where
-    is_next : turned d (Does (effect h).effect) s ≡ s'
+    is_next : turned d (Ok (effect h).effect) s ≡ s'
     is_next = ap (λ (a : Attempt). turned d a s) (sym (effect h).is)
 
     further : Step d p (advanced d 1 p)
@@ -115,7 +115,7 @@ module _ (d : Direction) (x : Machine) where
     reversed : Reversed t d s s'
     reversed = subst (Reversed t d s) is_next (turn_back t d (is_last d p) s g.view (effect h).is)
 
-    plan_back : plan_of (flip d) (next d x) ≡ Does reversed.by
+    plan_back : plan_of (flip d) (next d x) ≡ Ok reversed.by
     plan_back = ap₂ (planned t (flip d)) (ap (is_last (flip d)) (next_position h) ∙ further.back) next_seen ∙ reversed.plan
 
     view_back : view_after (flip d) (next d x) ≡ s

@@ -4,8 +4,8 @@ use mathlib.Core.List.{List}
 use Prim.Native.Nat.{ℕ}
 use Rattle.step.specs.declared.Direction.{Direction}
 use Rattle.step.specs.declared.Effect.{Effect}
-use Rattle.step.specs.declared.Attempt.{Attempt}
-use Rattle.step.specs.declared.Attempt.TheVariants.{Does}
+use Rattle.step.specs.Step.{Attempt}
+use Rattle.std.specs.Prelude.{Ok}
 use Rattle.step.specs.View.{View}
 use Rattle.step.specs.Step.{store_of, store_in, performed}
 use Rattle.machine.specs.Turn.{to, executed, turned}
@@ -24,7 +24,7 @@ after_effect d x e =
 
 -- e is the only effect that the word at pc can have
 pub effected : (d : Direction) (x : Machine) → Bounded x → refusal d x ≡ 0 → (e : Effect)
-    → ((f : Effect) → executed (state_of x).links d (found d x) ≡ Does f → Does e ≡ Does f) → next d x ≡ after_effect d x e
+    → ((f : Effect) → executed (state_of x).links d (found d x) ≡ Ok f → ◌≡◌ {A = Attempt} (Ok e) (Ok f)) → next d x ≡ after_effect d x e
 effected d x g h e only =
     λ j. left_as x (answered (plan_is j)) (((turn_leaves x d g.view).memory ∙ ap (λ (a : Attempt). store_in (planned_store a s) x.memory) plan_is) j)
   where
@@ -34,7 +34,7 @@ effected d x g h e only =
     s : View
     s = found d x
 
-    plan_is : plan_of d x ≡ Does e
+    plan_is : plan_of d x ≡ Ok e
     plan_is =
         let m = made t d (is_last d x.state.position) (view_of x) h in
         m.is ∙ sym (only m.effect (landed_attempt d s _ (judged_attempt t d _ _ s _ m.is)))

@@ -7,28 +7,30 @@ use lib.Dec.{eqb}
 use borrow.Author.Tests.{eqb-true}
 use Rattle.qins.specs.Decode.{decode, operation, line, finish_word, kind}
 use Rattle.step.specs.declared.Direction.TheVariants.{Forward}
-use Rattle.step.specs.declared.Attempt.{Attempt}
-use Rattle.step.specs.declared.Attempt.TheVariants.{Refused, Does}
+use Rattle.step.specs.Step.{Attempt}
+use Rattle.std.specs.Prelude.{Err, Ok}
 use Rattle.step.specs.View.{View, sized}
 use Rattle.word.specs.Refusal.{refuse}
-use Rattle.step.specs.Step.{number}
+use Rattle.word.specs.Refusal.{number_of, number}
+use Rattle.word.specs.declared.refusals.Refusal.{Refusal}
 use Rattle.step.proofs.Numbers.{attempt_13}
 use Rattle.step.specs.Sizes.{in_range, bad_sizes}
 use Rattle.machine.specs.Turn.{landed, judged, executed}
 use Rattle.machine.specs.Machine.{with_status, zeros, Machine, machine_of}
 use Rattle.machine.specs.Calls.{refusal, found}
+use Rattle.word.specs.declared.refusals.Refusal.TheVariants.{End, Landing}
 
 -- a refusal by another number, which may only stand where the answer is no
-past : (b : Bool) (n : ℕ) (x : Attempt) (y : Bool) → eqb n 13 ≡ false → (b ≡ true → false ≡ y) → eqb (number x) 13 ≡ y
-    → eqb (number (refuse b (Refused n) x)) 13 ≡ y
+past : (b : Bool) (n : Refusal) (x : Attempt) (y : Bool) → eqb (number_of n) 13 ≡ false → (b ≡ true → false ≡ y) → eqb (number x) 13 ≡ y
+    → eqb (number (refuse b (Err n) x)) 13 ≡ y
 unfolding refuse
 past true n x y h g e = h ∙ g refl
 past false n x y h g e = e
 
 past_landed : (s : View) (x : Attempt) → eqb (number (landed Forward s x)) 13 ≡ eqb (number x) 13
 unfolding landed
-past_landed s (Refused n) = refl
-past_landed s (Does e) = past _ 18 (Does e) false refl (λ h. refl) refl
+past_landed s (Err n) = refl
+past_landed s (Ok e) = past _ Landing (Ok e) false refl (λ h. refl) refl
 
 finish_is_one : (w : ℕ) → eqb w finish_word ≡ true → false ≡ eqb (kind (decode w)) 0
 unfolding decode operation line
@@ -42,4 +44,4 @@ pub told_by_13 : (w : ℕ) → eqb (refusal Forward (one_word w)) 13 ≡ eqb (ki
 unfolding judged bad_sizes in_range refuse
 told_by_13 w =
     let s = found Forward (one_word w) in
-    past (eqb w finish_word) 12 _ _ refl (finish_is_one w) (past_landed s (executed [] Forward s) ∙ attempt_13 [] Forward (decode w) s)
+    past (eqb w finish_word) End _ _ refl (finish_is_one w) (past_landed s (executed [] Forward s) ∙ attempt_13 [] Forward (decode w) s)

@@ -15,8 +15,8 @@ use Rattle.qins.proofs.Formed.{decode_formed}
 use Rattle.step.specs.declared.Direction.{Direction}
 use Rattle.step.specs.declared.Direction.TheVariants.{Forward, Back}
 use Rattle.step.specs.declared.Effect.{Effect}
-use Rattle.step.specs.declared.Attempt.{Attempt}
-use Rattle.step.specs.declared.Attempt.TheVariants.{Refused, Does}
+use Rattle.step.specs.Step.{Attempt}
+use Rattle.std.specs.Prelude.{Err, Ok}
 use Rattle.step.specs.View.{View, Bounds, flip}
 use Rattle.word.specs.Refusal.{refuse}
 use Rattle.step.specs.Step.{shifted, marked, written, performed, is_ready, attempt}
@@ -26,6 +26,7 @@ use Rattle.step.proofs.Kept.{Kept, performed_kept}
 use Rattle.step.proofs.Undo.{Fair, Undone, undone, refused_no, inside, passed, set_back, words_set, shifted_word, shifted_back}
 use Rattle.step.specs.Sizes.{bad_sizes}
 use Rattle.machine.specs.Turn.{pc, br, at_pc, stride, moved_pc, from_pc, to_pc, from, new_pc, to, is_code, starts, finishes, landed, judged, executed, planned, turned}
+use Rattle.word.specs.declared.refusals.Refusal.TheVariants.{End, Landing, Outside, Position, Sizes, Waiting}
 
 -- ---- pc's moves
 
@@ -108,7 +109,7 @@ record Accepted (t : List ℕ) (d : Direction) (s : View) (e : Effect) : Type 0 
   free : starting (edge d e s) s.memory ≡ false
   code : not (is_code s.at (pc (from d s))) ≡ false
   running : finishes s.memory (pc (from d s)) ≡ false
-  does : executed t d (from d s) ≡ Does e
+  does : executed t d (from d s) ≡ Ok e
 
 -- the test of landed, on the view after the turn
 abbrev landing : Effect → View → Bool
@@ -121,15 +122,15 @@ landing_is e s g =
     get_or-set_same (written e s.regs s.memory) 0 i 0 (rw (written_long e s.regs s.memory, g.sixteen) (omega arith)) in
     rw (p, (marked_sizes e s.at).k)
 
-landed_does : (s : View) (x : Attempt) {e : Effect} → Bounds s → landed Forward s x ≡ Does e → (starting (to Forward (performed e s)) s.memory ≡ false) × (x ≡ Does e)
+landed_does : (s : View) (x : Attempt) {e : Effect} → Bounds s → landed Forward s x ≡ Ok e → (starting (to Forward (performed e s)) s.memory ≡ false) × (x ≡ Ok e)
 unfolding landed
-landed_does s (Refused n) g h = absurd (refused_no h)
-landed_does s (Does f) {e} g h =
-    let p = passed (landing f s) 18 _ h in
+landed_does s (Err n) g h = absurd (refused_no h)
+landed_does s (Ok f) {e} g h =
+    let p = passed (landing f s) Landing _ h in
     (subst (λ (x : Effect). starting (to Forward (performed x s)) s.memory ≡ false) (inside p.1) (sym (landing_is f s g) ∙ p.0), p.1)
 
 -- a finish is not undone: waiting there is refused by 14, else 18 comes
-no_finish : (t : List ℕ) (d : Direction) (s : View) {e : Effect} → executed t d s ≡ Does e
+no_finish : (t : List ℕ) (d : Direction) (s : View) {e : Effect} → executed t d s ≡ Ok e
     → is_ready s.at && finishes s.memory (pc s) ≡ false → finishes s.memory (pc s) ≡ false
 unfolding attempt decode operation line
 no_finish t d s {e} h k = go (finishes s.memory (pc s)) refl
@@ -137,37 +138,37 @@ no_finish t d s {e} h k = go (finishes s.memory (pc s)) refl
     go : (b : Bool) → finishes s.memory (pc s) ≡ b → finishes s.memory (pc s) ≡ false
     go false z = z
     go true z =
-        let q : attempt t d (decode finish_word) s ≡ Does e =
+        let q : attempt t d (decode finish_word) s ≡ Ok e =
         ap (λ (w : ℕ). attempt t d (decode w) s) (sym (eqb-true (get_or s.memory (pc s) 0) finish_word z)) ∙ h in
-        let c = not_not (is_ready s.at) (passed (not (is_ready s.at)) 14 _ q).0 in
+        let c = not_not (is_ready s.at) (passed (not (is_ready s.at)) Waiting _ q).0 in
         absurd (true≢false (rw (c, z) at k))
 
-accepted : (t : List ℕ) (d : Direction) (last : Bool) (s : View) {e : Effect} → Bounds s → planned t d last s ≡ Does e → Accepted t d s e
+accepted : (t : List ℕ) (d : Direction) (last : Bool) (s : View) {e : Effect} → Bounds s → planned t d last s ≡ Ok e → Accepted t d s e
 unfolding judged landed
 accepted t Forward last s g h =
-    let p = passed (bad_sizes s.at s.memory t) 10 _ h in
-    let q = passed (not (is_code s.at (pc (from Forward s)))) 11 _ (passed last 21 _ p.1).1 in
-    let r = passed (finishes s.memory (pc (from Forward s))) 12 _ q.1 in
+    let p = passed (bad_sizes s.at s.memory t) Sizes _ h in
+    let q = passed (not (is_code s.at (pc (from Forward s)))) Outside _ (passed last Position _ p.1).1 in
+    let r = passed (finishes s.memory (pc (from Forward s))) End _ q.1 in
     let l = landed_does (from Forward s) _ (bounds_from s g Forward) r.1 in
     record { sizes = p.0; free = l.0; code = q.0; running = r.0; does = l.1 }
 accepted t Back last s g h =
-    let p = passed (bad_sizes s.at s.memory t) 10 _ h in
-    let f = passed (starting s s.memory) 12 _ (passed last 21 _ p.1).1 in
-    let q = passed (not (is_code s.at (pc (from Back s)))) 11 _ f.1 in
-    let r = passed (is_ready s.at && finishes s.memory (pc (from Back s))) 18 _ q.1 in
+    let p = passed (bad_sizes s.at s.memory t) Sizes _ h in
+    let f = passed (starting s s.memory) End _ (passed last Position _ p.1).1 in
+    let q = passed (not (is_code s.at (pc (from Back s)))) Outside _ f.1 in
+    let r = passed (is_ready s.at && finishes s.memory (pc (from Back s))) Landing _ q.1 in
     record { sizes = p.0; free = f.0; code = q.0; running = no_finish t Back (from Back s) r.1 r.0; does = r.1 }
 
 -- and it is not at the last position
-pub going : (t : List ℕ) (d : Direction) (last : Bool) (s : View) {e : Effect} → planned t d last s ≡ Does e → last ≡ false
+pub going : (t : List ℕ) (d : Direction) (last : Bool) (s : View) {e : Effect} → planned t d last s ≡ Ok e → last ≡ false
 unfolding judged
-going t Forward last s h = (passed last 21 _ (passed _ 10 _ h).1).0
-going t Back last s h = (passed last 21 _ (passed _ 10 _ h).1).0
+going t Forward last s h = (passed last Position _ (passed _ Sizes _ h).1).0
+going t Back last s h = (passed last Position _ (passed _ Sizes _ h).1).0
 
 pub and_false : (b : Bool) → b && false ≡ false
 and_false true = refl
 and_false false = refl
 
-accepts : (t : List ℕ) (d : Direction) (s : View) {e : Effect} → Bounds s → Accepted t d s e → planned t d false s ≡ Does e
+accepts : (t : List ℕ) (d : Direction) (s : View) {e : Effect} → Bounds s → Accepted t d s e → planned t d false s ≡ Ok e
 unfolding judged landed refuse
 accepts t Forward s {e} g a = rw (a.sizes, a.code, a.running, a.does, landing_is e (from Forward s) (bounds_from s g Forward), a.free)
 accepts t Back s g a = rw (a.sizes, a.free, a.code, a.running, and_false (is_ready s.at), a.does)
@@ -234,11 +235,11 @@ module _ (t : List ℕ) (d : Direction) (s : View) (g : Bounds s) (e : Effect) (
             subst (λ (x : View). finishes after.memory (pc x) ≡ false) (sym home)
             (ap (λ (w : ℕ). eqb w finish_word) same_word ∙ a.running);
         does =
-            subst (λ (x : View). executed t (flip d) x ≡ Does back.by) (sym home)
+            subst (λ (x : View). executed t (flip d) x ≡ Ok back.by) (sym home)
             (ap (λ (w : ℕ). attempt t (flip d) (decode w) after) same_word ∙ back.does);
       }
 
-  turned_back : (planned t (flip d) false (to d after) ≡ Does back.by) × (turned (flip d) (Does back.by) (to d after) ≡ s) × Bounds (to d after)
+  turned_back : (planned t (flip d) false (to d after) ≡ Ok back.by) × (turned (flip d) (Ok back.by) (to d after) ≡ s) × Bounds (to d after)
   turned_back = (
     accepts t (flip d) (to d after) (bounds_to after keeps.bounds d) accepted_back,
     ap (λ (x : View). to (flip d) (performed back.by x)) home ∙ (ap (to (flip d)) back.home ∙ whole),
@@ -248,16 +249,16 @@ module _ (t : List ℕ) (d : Direction) (s : View) (g : Bounds s) (e : Effect) (
 -- what the turn the other way does, after one that did e
 pub record Reversed (t : List ℕ) (d : Direction) (s s' : View) : Type 0 where
   pub by : Effect
-  pub plan : planned t (flip d) false s' ≡ Does by
-  pub home : turned (flip d) (Does by) s' ≡ s
+  pub plan : planned t (flip d) false s' ≡ Ok by
+  pub home : turned (flip d) (Ok by) s' ≡ s
   pub bounds : Bounds s'
 
-pub turn_back : (t : List ℕ) (d : Direction) (last : Bool) (s : View) {e : Effect} → Bounds s → planned t d last s ≡ Does e → Reversed t d s (turned d (Does e) s)
+pub turn_back : (t : List ℕ) (d : Direction) (last : Bool) (s : View) {e : Effect} → Bounds s → planned t d last s ≡ Ok e → Reversed t d s (turned d (Ok e) s)
 turn_back t d last s {e} g h =
     let a = accepted t d last s g h in
     let r = turned_back t d s g e a in
     record { by = (back t d s g e a).by; plan = r.0; home = r.1; bounds = r.2 }
 
 -- and what it does to the memory is within the data that is there
-pub plan_fair : (t : List ℕ) (d : Direction) (last : Bool) (s : View) {e : Effect} → Bounds s → planned t d last s ≡ Does e → Fair e s.at × (s.at.m ≤ length s.memory)
+pub plan_fair : (t : List ℕ) (d : Direction) (last : Bool) (s : View) {e : Effect} → Bounds s → planned t d last s ≡ Ok e → Fair e s.at × (s.at.m ≤ length s.memory)
 plan_fair t d last s {e} g h = let a = accepted t d last s g h in ((back t d s g e a).fair, (bad_sizes_right s.at s.memory t a.sizes).memory)

@@ -10,10 +10,10 @@ use lib.IntN.{ℤ}
 use lib.ListN.{length}
 use borrow.Author.Tests.{ne_eqb, ltb-true, ltb-false}
 use Rattle.word.specs.Word.{pick}
-use Rattle.word.specs.Refusal.{refuse}
+use Rattle.word.specs.Refusal.{refuse, number_of}
+use Rattle.word.specs.declared.refusals.Refusal.TheVariants.{Sizes, Position}
 use Rattle.step.specs.declared.Status.{Status}
 use Rattle.step.specs.declared.Direction.{Direction}
-use Rattle.step.specs.declared.Store.{Store}
 use Rattle.step.proofs.Sized.{SameSizes}
 use Rattle.step.proofs.BadSizes.{bad_sizes_same}
 use Rattle.machine.specs.Machine.{status_of, updated, Machine, left_as, at_position, state_of, wrong_sizes, Bounded}
@@ -22,7 +22,7 @@ use Rattle.machine.specs.Position.{is_last, advanced}
 use Rattle.machine.specs.InPlace.{Steps, room, last_refusal}
 use Rattle.machine.specs.Batch.{after, turns_made, BatchPromise}
 use Rattle.machine.specs.declared.Record.{Record}
-use Rattle.machine.proofs.InPlace.{steps_regs}
+use Rattle.machine.proofs.InPlace.{turns_regs}
 use Rattle.machine.proofs.Claims.{same_status_lem, refused_keeps, next_sizes, next_long}
 use Rattle.machine.proofs.Room.{advance_none, Along, along, last_room}
 use Rattle.machine.proofs.Whole.{status_is, refusal_is, state_is, memory_is, last_refusal_lem, last_stands}
@@ -141,31 +141,31 @@ module _ {d : Direction} {n most : ℕ} {x : Machine} {at : Status} {regs mem : 
   wrong : wrong_sizes y ≡ wrong_sizes (left_as x r mem)
   wrong = bad_sizes_same (state_of y).links (status_of r) (status_of y.state) (state_of y).words (state_of y).words (record { k = refl; m = refl; n = refl }) refl
 
-  pub full : most ≤ i → most < n → BatchPromise d n x i (last_refusal (left_as x r mem)) y
+  pub full : most ≤ i → most < n → BatchPromise d n x i (number_of (last_refusal (left_as x r mem))) y
   full h l =
       let v = inv.within in
       let m = inv.limit.full l in
       let z = at_last (omega arith) in
       let w = last_refusal_lem d y z in
       out
-      (subst (λ (k : ℕ). Ends d (n - i) y 0 k y) (w ∙ ap (λ (b : Bool). refuse b 10 21) wrong)
+      (subst (λ (k : ℕ). Ends d (n - i) y 0 k y) (w ∙ ap (λ (b : Bool). number_of (refuse b Sizes Position)) wrong)
       (ends_refused d (n - i) y (omega arith) (last_stands d y z)))
 
-  module _ {w : ℕ} {at' : Status} {s : Store} {regs' mem' : List ℕ} (f : Steps true d at regs mem mem x.table w at' s regs' mem') (h : i < most) where
-    whole : Steps true d (status_of y.state) regs mem mem x.table w at' s regs' mem'
-    whole = subst⁻¹ (λ (a : Status). Steps true d a regs mem mem x.table w at' s regs' mem') same f
+  module _ {w : ℕ} {at' : Status} {regs' mem' : List ℕ} (f : Steps d at regs mem x.table w at' regs' mem') (h : i < most) where
+    whole : Steps d (status_of y.state) regs mem x.table w at' regs' mem'
+    whole = subst⁻¹ (λ (a : Status). Steps d a regs mem x.table w at' regs' mem') same f
 
     stepped : next d y ≡ left_as x (updated r (advanced d (pick (eqb w 0) (i + 1) i) p) at' regs') mem'
     stepped =
         let e = before_last h in
-        let a = state_is y whole e i p refl in
-        let b = memory_is y whole e refl refl in
+        let a = state_is y whole.turn e i p refl in
+        let b = memory_is y whole.turn e whole.memory in
         sym (λ j. left_as x (a j) (b j))
 
     pub again : w ≡ 0 → Loop d n most x at' regs' mem' (i + 1)
     again z =
         let s = next_sizes d y in
-        let q : refusal d y ≡ 0 = sym (refusal_is y whole (before_last h)) ∙ z in
+        let q : refusal d y ≡ 0 = sym (refusal_is y whole.turn (before_last h)) ∙ z in
         let k : pick (eqb w 0) (i + 1) i ≡ i + 1 = rw z refl in
         let m = inv.limit.asked in
         record {
@@ -175,14 +175,14 @@ module _ {d : Direction} {n most : ℕ} {x : Machine} {at : Status} {regs mem : 
               (went d n x y i inv.run (omega arith) q);
           limit = inv.limit;
           within = omega arith;
-          sizes = subst (SameSizes (status_of r)) (sym (status_is y whole (before_last h))) (record { k = s.k; m = s.m; n = s.n });
-          sixteen = steps_regs f ∙ inv.sixteen;
+          sizes = subst (SameSizes (status_of r)) (sym (status_is y whole.turn (before_last h))) (record { k = s.k; m = s.m; n = s.n });
+          sixteen = turns_regs f.turn ∙ inv.sixteen;
           bounds = inv.bounds;
         }
 
     pub stop : w ≢ 0 → BatchPromise d n x i w (left_as x (updated r (advanced d i p) at' regs') mem')
     stop z =
-        let e = refusal_is y whole (before_last h) in
+        let e = refusal_is y whole.turn (before_last h) in
         let q : refusal d y ≢ 0 = λ q. z (e ∙ q) in
         let m = inv.limit.asked in
         let k = ap (λ (b : Bool). left_as x (updated r (advanced d (pick b (i + 1) i) p) at' regs') mem') (ne_eqb w 0 z) in

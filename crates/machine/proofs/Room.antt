@@ -1,19 +1,15 @@
 -- The position: one further and back, and many further. Assumes nothing.
-use Prim.Native.Nat.{ℕ, zero, suc, ◌+◌, ◌-◌, ◌^◌, ◌<◌, ◌≤◌}
-use mathlib.Core.Path.{◌≡◌, refl, sym, ap, ap₂, ◌∙◌, subst, subst⁻¹}
+use Prim.Native.Nat.{ℕ, zero, suc, ◌+◌, ◌-◌, ◌<◌, ◌≤◌}
+use mathlib.Core.Path.{◌≡◌, refl, sym, ap, ◌∙◌, subst, subst⁻¹}
 use mathlib.Core.Logic.{◌≢◌}
 use mathlib.Core.Bool.{Bool, true, false, true≢false}
 use native.Mathlib.Omega.{arith}
 use native.Mathlib.Numerals.{add-one}
 use lib.Dec.{lit<}
-use lib.IntN.{ℤ, pos, negsuc, suc_ℤ, pred_ℤ, neg_ℤ, ◌+ℤ◌, ◌-ℤ◌, +ℤ_one, -ℤ_one, +ℤ_idr, +ℤ_assoc, neg_ℤ-+ℤ, +ℤ-neg_ℤ_cancel, -ℤ-+ℤ_cancel}
-use lib.Signed.{mag, le_z, lt_z}
-use borrow.Author.Tests.{leb-false, le-leb, lt-leb, le-ltb}
+use lib.IntN.{ℤ, pos, negsuc, suc_ℤ, pred_ℤ, neg_ℤ, ◌+ℤ◌, +ℤ_one, -ℤ_one, +ℤ_idr, +ℤ_assoc, neg_ℤ-+ℤ, +ℤ-neg_ℤ_cancel, -ℤ-+ℤ_cancel}
+use borrow.Author.Tests.{leb-false, le-leb, lt-leb}
 use mir.Syntax.{w64}
-use mir.Val.{SFits, to_z}
-use mir.Facts.{to_z-of_z, to_z_pos}
-use Rattle.word.specs.Word.{pick}
-use Rattle.word.proofs.Bits.{reread}
+use mir.Val.{SFits}
 use Rattle.step.specs.declared.Direction.{Direction}
 use Rattle.step.specs.declared.Direction.TheVariants.{Forward, Back}
 use Rattle.step.specs.View.{flip}
@@ -106,60 +102,3 @@ along d (suc k) p f h =
     let m = s.left in
     let e : advanced d 1 q ≡ advanced d (suc k) p = advance_one d k p ∙ ap (λ (n : ℕ). advanced d n p) (add-one k) in
     subst (Along d (suc k) p) e (record { fits = s.fits; left = omega arith })
-
--- ---- as the code finds them: a signed value is read from its bits
-
-pub size_fits : {p : ℤ} {m : ℕ} → SFits w64 p → m ≡ mag (reread p) → m ≤ 9223372036854775807
-size_fits {p} {m} f = subst⁻¹ (λ (q : ℤ). m ≡ mag q → m ≤ 9223372036854775807) (to_z-of_z f) (go p f)
-  where
-    go : (p : ℤ) → SFits w64 p → m ≡ mag p → m ≤ 9223372036854775807
-    go (pos n) f e = let l = f.sfits in omega arith
-    go (negsuc n) f e = let l = f.sfits in omega arith
-
--- the turns to an end, from the half that is away from it or from its own
-abbrev distance : Bool → ℕ → ℕ
-distance away m = pick away (9223372036854775808 + m) (9223372036854775807 - m)
-
--- p is in that half
-abbrev is_away : Direction → ℤ → Bool
-is_away Forward p = lt_z p (pos 0)
-is_away Back p = le_z (pos 0) p
-
-pub room_is : (d : Direction) {p : ℤ} {m r : ℕ} → SFits w64 p → m ≡ mag (reread p) → r ≡ distance (is_away d (reread p)) m → r ≡ room d p
-room_is d {p} {m} {r} f =
-    subst⁻¹ (λ (q : ℤ). m ≡ mag q → r ≡ distance (is_away d q) m → r ≡ room d p) (to_z-of_z f) (λ e h. h ∙ (ap (distance (is_away d p)) e ∙ go d p))
-  where
-    go : (d : Direction) (p : ℤ) → distance (is_away d p) (mag p) ≡ room d p
-    go Forward (pos n) = rw (le-ltb n 0 (omega arith))
-    go Forward (negsuc n) = refl
-    go Back (pos n) = rw (le-leb 0 n (omega arith))
-    go Back (negsuc n) = refl
-
--- far from both ends there is room for every batch
-pub room_far : (d : Direction) {p : ℤ} {m n : ℕ} → SFits w64 p → n < 2 ^ 32 → m ≡ mag (reread p) → m < 4611686018427387904 → n ≤ room d p
-room_far d {p} {m} {n} f l = subst⁻¹ (λ (q : ℤ). m ≡ mag q → m < 4611686018427387904 → n ≤ room d p) (to_z-of_z f) (go d p)
-  where
-    go : (d : Direction) (p : ℤ) → m ≡ mag p → m < 4611686018427387904 → n ≤ room d p
-    go Forward (pos k) e h = omega arith
-    go Forward (negsuc k) e h = omega arith
-    go Back (pos k) e h = omega arith
-    go Back (negsuc k) e h = omega arith
-
-pub room_read : (d : Direction) {p : ℤ} {r : ℕ} → SFits w64 p → r ≡ room d (reread p) → r ≡ room d p
-room_read d {p} {r} f = subst⁻¹ (λ (q : ℤ). r ≡ room d q → r ≡ room d p) (to_z-of_z f) (λ e. e)
-
--- z, as it is computed, is the position k further
-pub record Advances (d : Direction) (k : ℕ) (p z : ℤ) : Type 0 where
-  pub fits : SFits w64 z
-  pub is : reread z ≡ advanced d k p
-
-advances : (d : Direction) (k : ℕ) (p z : ℤ) → SFits w64 p → k ≤ room d p → z ≡ advanced d k p → Advances d k p z
-advances d k p z f h e =
-    let a = (along d k p f h).fits in
-    record { fits = subst⁻¹ (SFits w64) e a; is = ap reread e ∙ to_z-of_z a }
-
-pub adds : {k : ℕ} {p : ℤ} → SFits w64 p → k < 2 ^ 32 → k ≤ room Forward p → Advances Forward k p (reread p +ℤ to_z w64 k)
-adds {k} {p} f l h = let e : to_z w64 k ≡ pos k = to_z_pos w64 (omega arith) in advances Forward k p _ f h (ap₂ (λ (a b : ℤ). a +ℤ b) (to_z-of_z f) e)
-
-pub subtracts : {k : ℕ} {p : ℤ} → SFits w64 p → k < 2 ^ 32 → k ≤ room Back p → Advances Back k p (reread p -ℤ to_z w64 k)
-subtracts {k} {p} f l h = let e : to_z w64 k ≡ pos k = to_z_pos w64 (omega arith) in advances Back k p _ f h (ap₂ (λ (a b : ℤ). a -ℤ b) (to_z-of_z f) e)

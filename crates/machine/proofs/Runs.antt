@@ -1,51 +1,44 @@
--- A run of turns, which may be live or not. Assumes nothing.
-use mathlib.Core.Path.{◌≡◌, refl, sym, ap, ap₂, ◌∙◌, subst, subst⁻¹, subst₂}
-use mathlib.Core.Bool.{Bool, true, false, true≢false, ◌&&◌}
+-- A run of turns, and one turn alone. Assumes nothing.
+use mathlib.Core.Path.{◌≡◌, sym, ap, ◌∙◌, subst, subst⁻¹}
+use mathlib.Core.Bool.{false}
 use mathlib.Core.Logic.{◌≢◌}
 use mathlib.Core.List.{List}
 use Prim.Native.Nat.{ℕ, ◌+◌, ◌<◌, ◌≤◌}
 use native.Mathlib.Omega.{arith}
 use lib.Dec.{eqb, ltb}
 use lib.IntN.{ℤ}
-use lib.ListN.{length}
 use mir.Syntax.{w64}
 use mir.Val.{SFits}
 use mir.Facts.{to_z-of_z}
-use borrow.Author.Tests.{eqb-true, eqb-false, eq-eqb}
+use Rattle.std.specs.Prelude.{Result, Option, Some, None}
 use Rattle.word.specs.Word.{pick}
+use Rattle.word.specs.Refusal.{number_of, number}
+use Rattle.word.specs.declared.refusals.Refusal.{Refusal}
+use Rattle.word.proofs.Refusal.{number_above}
+use Rattle.word.proofs.Bits.{reread}
 use Rattle.step.specs.declared.Status.{Status}
 use Rattle.step.specs.declared.Direction.{Direction}
-use Rattle.word.proofs.Words.{and_true}
-use Rattle.word.proofs.Bits.{reread}
-use Rattle.step.specs.declared.Store.{Store}
 use Rattle.step.specs.View.{seen}
 use Rattle.step.proofs.Sized.{SameSizes}
-use Rattle.step.specs.Step.{no_store}
-use Rattle.machine.specs.Machine.{status_of, record_at, updated, Machine, left_as, wrong_sizes, Bounded}
-use Rattle.machine.specs.Calls.{TurnPromise, accepted, refusal, next}
+use Rattle.machine.specs.Machine.{status_of, record_at, updated, Machine, left_as, Bounded}
+use Rattle.machine.specs.Calls.{TurnPromise, next}
 use Rattle.machine.specs.Turn.{plan_at}
-use Rattle.machine.specs.Position.{advanced}
-use Rattle.machine.specs.InPlace.{Steps, room, last_refusal, record_by, First, Runs}
-use Rattle.machine.specs.Batch.{after, turns_made, BatchPromise}
+use Rattle.machine.specs.Position.{is_last, advanced}
+use Rattle.machine.specs.InPlace.{Turns, Steps, Shows, status_shown, store_shown, room, last_refusal, number_by, First, Runs}
+use Rattle.machine.specs.Batch.{BatchPromise}
 use Rattle.machine.specs.declared.Record.{Record}
 use Rattle.machine.specs.declared.Ran.{Ran}
-use Rattle.machine.proofs.InPlace.{steps_long}
+use Rattle.machine.specs.declared.cycle.Shown.{Shown}
 use Rattle.machine.proofs.Claims.{refused_keeps, turned_sizes}
 use Rattle.machine.proofs.Room.{advance_none, last_room}
-use Rattle.machine.proofs.Whole.{refusal_is, state_is, store_is, none_accepted, last_first}
+use Rattle.machine.proofs.Whole.{refusal_is, state_is, memory_is, store_is, last_refusal_lem, last_stands, last_first}
 use Rattle.machine.proofs.Loops.{Loop, limited, loop_starts, done, full, again, stop}
 
--- the invariant: the loop's, and one that is not live has made no turn
-pub record Running (live : Bool) (d : Direction) (n most : ℕ) (x : Machine) (at : Status) (regs mem : List ℕ) (i : ℕ) : Type 0 where
-  pub loop : Loop d n most x at regs mem i
-  pub first : live ≡ false → (i ≡ 0) × (at ≡ status_of x.state) × (regs ≡ x.state.regs)
-
-pub running_starts : {live : Bool} {d : Direction} {n most : ℕ} {x : Machine} {at : Status} → at ≡ status_of x.state
+pub run_starts : {d : Direction} {n most : ℕ} {x : Machine} {at : Status} → at ≡ status_of x.state
     → SFits w64 x.state.position → most ≡ pick (ltb (room d (reread x.state.position)) n) (room d (reread x.state.position)) n → Bounded x
-    → Running live d n most x at x.state.regs x.memory 0
-running_starts {d = d} {n = n} {most = most} e f l g =
-    let m = subst (λ (p : ℤ). most ≡ pick (ltb (room d p) n) (room d p) n) (to_z-of_z f) l in
-    record { loop = loop_starts e (limited m) g; first = λ l. (refl, e, refl) }
+    → Loop d n most x at x.state.regs x.memory 0
+run_starts {d = d} {n = n} {most = most} e f l g =
+    let m = subst (λ (p : ℤ). most ≡ pick (ltb (room d p) n) (room d p) n) (to_z-of_z f) l in loop_starts e (limited m) g
 
 -- a status with the record's sizes
 made_at : (r : Record) (p : ℤ) (at : Status) (regs : List ℕ) → SameSizes (status_of r) at → updated r p at regs ≡ record_at at regs p
@@ -55,144 +48,128 @@ made_at r p at regs z =
     let n = sym z.n in
     λ j. record { regs = regs; qifv = at.qifv; qifw = at.qifw; k = k j; m = m j; n = n j; position = p }
 
-module _ (live : Bool) (mem shown : List ℕ) {d : Direction} {n most : ℕ} {x : Machine} {at : Status} {regs : List ℕ} {i : ℕ}
-    (inv : Running live d n most x at regs mem i) where
+module _ {d : Direction} {n most : ℕ} {x : Machine} {at : Status} {regs mem : List ℕ} {i : ℕ} (inv : Loop d n most x at regs mem i) where
   abbrev r : Record
   r = x.state
 
-  -- the machine with the memory that is only read
-  abbrev y : Machine
-  y = left_as x r shown
-
   run_room : i ≤ room d r.position
-  run_room = let a = inv.loop.within in let b = inv.loop.limit.inside in omega arith
+  run_room = let a = inv.within in let b = inv.limit.inside in omega arith
 
   -- what a run ends with, said of the record that it began with
-  runs : (turns w : ℕ) (at' : Status) (regs' : List ℕ) (s : Store) (mem' : List ℕ) → SameSizes (status_of r) at'
-      → (live ≡ true → BatchPromise d n x turns w (left_as x (updated r (advanced d turns r.position) at' regs') mem'))
-      → turns ≤ room d r.position
-      → (live ≡ false → 0 < n → First d y w (updated r (advanced d (accepted w) r.position) at' regs') s)
-      → (live ≡ false → 0 < n → accepted w ≤ room d r.position)
-      → {a : Ran} → a ≡ record { turns = turns; refusal = w; at = at'; regs = regs'; store = s } → Runs live d n x shown a mem'
-  runs turns w at' regs' s mem' z b m f c q =
-      subst⁻¹ (λ (a : Ran). Runs live d n x shown a mem') q
-      (record {
-        batch = λ l. subst (λ (u : Record). BatchPromise d n x turns w (left_as x u mem')) (made_at r (advanced d turns r.position) at' regs' z) (b l);
-        made = λ l. m;
-        first = λ l k. subst (λ (u : Record). First d y w u s) (made_at r (advanced d (accepted w) r.position) at' regs' z) (f l k);
-        counted = c;
-        m = z.m;
-      })
+  runs : (w : Option Refusal) (at' : Status) (regs' mem' : List ℕ) → SameSizes (status_of r) at'
+      → BatchPromise d n x i (number_by w) (left_as x (updated r (advanced d i r.position) at' regs') mem')
+      → Runs d n x (record { turns = i; refusal = w; at = at'; regs = regs' }) mem'
+  runs w at' regs' mem' z b =
+      record {
+        batch = subst (λ (u : Record). BatchPromise d n x i (number_by w) (left_as x u mem')) (made_at r (advanced d i r.position) at' regs' z) b;
+        made = run_room;
+      }
 
-  -- all n turns are made, which are none where it is not live
-  pub run_done : {a : Ran} {k : Store} → most ≤ i → n ≤ most → a ≡ record { turns = i; refusal = 0; at = at; regs = regs; store = k } → Runs live d n x shown a mem
+  -- the loop is through
+  whole : (w : Option Refusal) → most ≡ i → Runs d n x (record { turns = i; refusal = w; at = at; regs = regs }) mem
+      → Runs d n x (record { turns = most; refusal = w; at = at; regs = regs }) mem
+  whole w e = subst⁻¹ (λ (k : ℕ). Runs d n x (record { turns = k; refusal = w; at = at; regs = regs }) mem) e
+
+  -- all n turns are made
+  pub run_done : most ≤ i → n ≤ most → Runs d n x (record { turns = most; refusal = None; at = at; regs = regs }) mem
   run_done h m =
-      runs i 0 at regs _ mem inv.loop.sizes (λ l. done inv.loop h m) run_room
-      (λ l k. let z = (inv.first l).0 in absurd (omega arith)) (λ l k. let z = (inv.first l).0 in absurd (omega arith))
+      let v = inv.within in
+      let t : most ≡ i = omega arith in
+      whole None t (runs None at regs mem inv.sizes (done inv h m))
 
   -- or there is room for no more
-  pub run_full : {a : Ran} {w : ℕ} {words : List ℕ} {k : Store} → most ≤ i → most < n → words ≡ pick live mem shown
-      → w ≡ last_refusal (left_as x r words) → k ≡ no_store → a ≡ record { turns = i; refusal = w; at = at; regs = regs; store = k }
-      → Runs live d n x shown a mem
-  run_full {words = words} h m o e s =
-      runs i _ at regs _ mem inv.loop.sizes (λ l. rw (e, o, l) (full inv.loop h m)) run_room
-      (λ l k. rw (e, o, s, l) (last_shown l)) (λ l k. rw (e, none_accepted (wrong_sizes (left_as x r words))) (omega arith))
-    where
-      last_shown : live ≡ false
-          → (let w = last_refusal y in
-          First d y w (updated r (advanced d (accepted w) r.position) at regs) no_store)
-      last_shown l =
-          let q = inv.first l in
-          let i-zero = q.0 in
-          let z = inv.loop.limit.full m in
-          let e = (last_room d r.position inv.loop.bounds.position).0 (omega arith) in
-          rw (q.1, q.2, none_accepted (wrong_sizes y), advance_none d r.position) (last_first d y e)
+  pub run_full : {e : Refusal} → most ≤ i → most < n → e ≡ last_refusal (left_as x r mem)
+      → Runs d n x (record { turns = most; refusal = Some e; at = at; regs = regs }) mem
+  run_full {e = e} h m q =
+      let v = inv.within in
+      let t : most ≡ i = omega arith in
+      whole (Some e) t (runs (Some e) at regs mem inv.sizes
+      (subst (λ (w : Refusal). BatchPromise d n x i (number_of w) (left_as x (updated r (advanced d i r.position) at regs) mem)) (sym q) (full inv h m)))
 
-  module _ {w : ℕ} {at' : Status} {s : Store} {regs' mem' : List ℕ} (f : Steps live d at regs mem (pick live mem shown) x.table w at' s regs' mem') where
-    lived : live ≡ true → Steps true d at regs mem mem x.table w at' s regs' mem'
-    lived l = subst (λ (b : Bool). Steps b d at regs mem (pick b mem shown) x.table w at' s regs' mem') l f
-
-    showed : live ≡ false → Steps false d (status_of r) r.regs mem shown x.table w at' s regs' mem'
-    showed l =
-        let q = inv.first l in
-        subst₂ (λ (a : Status) (g : List ℕ). Steps false d a g mem shown x.table w at' s regs' mem') q.1 q.2
-        (subst (λ (b : Bool). Steps b d at regs mem (pick b mem shown) x.table w at' s regs' mem') l f)
-
-    pub run_long : length mem' ≡ length x.memory
-    run_long = steps_long live mem shown f ∙ inv.loop.run.long
-
+  module _ {w : ℕ} {at' : Status} {regs' mem' : List ℕ} (f : Steps d at regs mem x.table w at' regs' mem') where
     sizes_after : SameSizes (status_of r) at'
     sizes_after =
-        let words = pick live mem shown in
-        let z = turned_sizes d (plan_at d false at regs words x.table) (seen at regs words) in
-        let y = inv.loop.sizes in
-        subst⁻¹ (SameSizes (status_of r)) f.status (record { k = z.k ∙ y.k; m = z.m ∙ y.m; n = z.n ∙ y.n })
+        let z = turned_sizes d (plan_at d false at regs mem x.table) (seen at regs mem) in
+        let y = inv.sizes in
+        subst⁻¹ (SameSizes (status_of r)) f.turn.status (record { k = z.k ∙ y.k; m = z.m ∙ y.m; n = z.n ∙ y.n })
 
-    -- it goes on where the turn is accepted and live
-    pub run_again : i < most → eqb w 0 && live ≡ true → Running live d n most x at' regs' mem' (i + 1)
-    run_again h z =
-        let q = and_true (eqb w 0) live z in
-        record { loop = again inv.loop (lived q.1) h (eqb-true w 0 q.0); first = λ l. absurd (true≢false (sym q.1 ∙ l)) }
+    -- the turn was accepted
+    pub run_again : i < most → w ≡ 0 → Loop d n most x at' regs' mem' (i + 1)
+    run_again h z = again inv f h z
 
-    pub run_stop : {a : Ran} → i < most → eqb w 0 && live ≡ false → a ≡ record { turns = i; refusal = w; at = at'; regs = regs'; store = s }
-        → Runs live d n x shown a mem'
-    run_stop h z =
-        runs i w at' regs' s mem' sizes_after (λ l. stop inv.loop (lived l) h (refused l)) run_room (λ l k. one_shown l) (λ l k. one_counted (eqb w 0))
-      where
-        refused : live ≡ true → w ≢ 0
-        refused l e = true≢false (sym (ap₂ (λ (b c : Bool). b && c) (eq-eqb w 0 e) l) ∙ z)
+    -- or refused
+    pub run_stop : {e : Refusal} → i < most → w ≡ number_of e → Runs d n x (record { turns = i; refusal = Some e; at = at'; regs = regs' }) mem'
+    run_stop {e} h z =
+        let stands : w ≡ 0 → ⊥ = λ q. let l = number_above e in omega arith in
+        runs (Some e) at' regs' mem' sizes_after
+        (subst (λ (k : ℕ). BatchPromise d n x i k (left_as x (updated r (advanced d i r.position) at' regs') mem')) z (stop inv f h stands))
 
-        inside : most ≤ room d r.position
-        inside = inv.loop.limit.inside
+-- what a run is to a batch, which reads the position from its bits and builds the record s
+module _ {d : Direction} {n : ℕ} {x : Machine} {a : Ran} {mem' : List ℕ} (f : Runs d n x a mem') where
+  as_read : reread x.state.position ≡ x.state.position
+  as_read = to_z-of_z f.batch.bounds.position
 
-        one_counted : (b : Bool) → pick b 1 0 ≤ room d r.position
-        one_counted true = omega arith
-        one_counted false = omega arith
+  pub batch_room : a.turns ≤ room d (reread x.state.position)
+  batch_room = rw as_read f.made
 
-        one_shown : live ≡ false → First d y w (updated r (advanced d (accepted w) r.position) at' regs') s
-        one_shown l =
-            let g = showed l in
-            let e = (last_room d r.position inv.loop.bounds.position).1 (omega arith) in
-            record {
-              refusal = refusal_is y g e;
-              state = state_is y g e 0 r.position (sym (advance_none d r.position));
-              store = store_is y g e refl;
-            }
+  pub batch_is : {s : Record} {w : ℕ} → s ≡ record_at a.at a.regs (advanced d a.turns (reread x.state.position)) → w ≡ number_by a.refusal
+      → BatchPromise d n x a.turns w (left_as x s mem')
+  batch_is e q = rw (e, as_read, q) f.batch
 
--- what a live run is to its callers, who read the position from its bits and build the record s
-module _ {d : Direction} {n : ℕ} {x : Machine} {shown : List ℕ} {a : Ran} {mem' : List ℕ} (f : Runs true d n x shown a mem') where
-  abbrev p : ℤ
-  p = x.state.position
+-- ---- one turn alone
 
-  abbrev promise : BatchPromise d n x a.turns a.refusal (left_as x (record_by d a.turns x.state a) mem')
-  promise = f.batch refl
+-- of a machine whose bounds are known, at a position that is read from its bits
+module _ (d : Direction) (x : Machine) (g : Bounded x) where
+  -- none is left this way
+  pub turn_last : {e : Refusal} → room d x.state.position ≡ 0 → e ≡ last_refusal x → TurnPromise d x (number_of e) x
+  turn_last z q =
+      let f = (last_room d x.state.position g.position).0 z in
+      record { refusal = ap number_of q ∙ sym (last_refusal_lem d x f); left = sym (refused_keeps d x (last_stands d x f)); bounds = g }
 
-  as_read : reread p ≡ p
-  as_read = to_z-of_z promise.bounds.position
+  pub first_last : {e : Refusal} → room d x.state.position ≡ 0 → e ≡ last_refusal x → First d x (number_of e) x.state None
+  first_last z q =
+      subst⁻¹ (λ (e : Refusal). First d x (number_of e) x.state None) q (last_first d x ((last_room d x.state.position g.position).0 z))
 
-  pub live_room : a.turns ≤ room d (reread p)
-  live_room = rw as_read (f.made refl)
+  module _ (h : room d x.state.position ≢ 0) where
+    pub turn_room : 1 ≤ room d (reread x.state.position)
+    turn_room = rw (to_z-of_z g.position) (omega arith)
 
-  pub live_batch : {s : Record} → s ≡ record_at a.at a.regs (advanced d a.turns (reread p))
-      → BatchPromise d n x a.turns a.refusal (left_as x s mem')
-  live_batch e = rw (e, as_read) promise
+    inside : is_last d x.state.position ≡ false
+    inside = (last_room d x.state.position g.position).1 (omega arith)
 
--- a batch of one is a single turn
-single : (d : Direction) (x : Machine)
-    → (let k = turns_made d 1 x in (pick (ltb k 1) (refusal d (after d k x)) 0 ≡ refusal d x) × (after d k x ≡ next d x))
-unfolding after turns_made
-single d x = go (eqb (refusal d x) 0) refl
-  where
-    go : (b : Bool) → eqb (refusal d x) 0 ≡ b
-        → (pick (ltb (pick b 1 0) 1) (refusal d (after d (pick b 1 0) x)) 0 ≡ refusal d x) × (after d (pick b 1 0) x ≡ next d x)
-    go true e = (sym (eqb-true _ _ e), refl)
-    go false e = (refl, sym (refused_keeps d x (eqb-false _ _ e)))
+    module _ {w : ℕ} {at' : Status} {regs' : List ℕ} (f : Turns d (status_of x.state) x.state.regs x.memory x.table w at' regs') where
+      -- the record after it, as it is built
+      record_is : w ≡ 0 → record_at at' regs' (advanced d 1 (reread x.state.position)) ≡ (next d x).state
+      record_is z =
+          let y = turned_sizes d (plan_at d false (status_of x.state) x.state.regs x.memory x.table) (seen (status_of x.state) x.state.regs x.memory) in
+          let p = x.state.position in
+          ap (λ (q : ℤ). record_at at' regs' (advanced d 1 q)) (to_z-of_z g.position)
+          ∙ (sym (made_at x.state (advanced d 1 p) at' regs' (subst⁻¹ (SameSizes (status_of x.state)) f.status (record { k = y.k; m = y.m; n = y.n })))
+          ∙ (sym (ap (λ (k : ℕ). updated x.state (advanced d (pick (eqb k 0) 1 0) p) at' regs') z)
+          ∙ state_is x f inside 0 p (sym (advance_none d p))))
 
-pub one : (d : Direction) (x : Machine) {k w : ℕ} {y : Machine} → BatchPromise d 1 x k w y → TurnPromise d x w y
-one d x h =
-    let s = single d x in
-    record {
-      refusal = h.refusal ∙ (ap (λ (k : ℕ). pick (ltb k 1) (refusal d (after d k x)) 0) h.turns ∙ s.0);
-      left = h.left ∙ (ap (λ (k : ℕ). after d k x) h.turns ∙ s.1);
-      bounds = h.bounds;
-    }
+      -- refused, it leaves the record
+      kept_is : (w ≡ 0 → ⊥) → next d x ≡ x
+      kept_is z = refused_keeps d x (λ q. z (refusal_is x f inside ∙ q))
+
+    module _ {w : ℕ} {at' : Status} {regs' mem' : List ℕ} (f : Steps d (status_of x.state) x.state.regs x.memory x.table w at' regs' mem') where
+      pub turn_done : w ≡ 0 → TurnPromise d x w (left_as x (record_at at' regs' (advanced d 1 (reread x.state.position))) mem')
+      turn_done z =
+          let a = record_is f.turn z in
+          let b = memory_is x f.turn inside f.memory in
+          record { refusal = refusal_is x f.turn inside; left = λ j. left_as x (a j) (b j); bounds = g }
+
+      pub turn_refused : (w ≡ 0 → ⊥) → TurnPromise d x w (left_as x x.state mem')
+      turn_refused z =
+          let b = memory_is x f.turn inside f.memory ∙ ap (λ (y : Machine). y.memory) (kept_is f.turn z) in
+          record { refusal = refusal_is x f.turn inside; left = ap (left_as x x.state) b ∙ sym (kept_is f.turn z); bounds = g }
+
+    module _ {a : Result Shown Refusal} {regs' : List ℕ} (f : Shows d (status_of x.state) x.state.regs x.memory x.table a regs') where
+      pub first_done : number a ≡ 0
+          → First d x (number a) (record_at (status_shown (status_of x.state) a) regs' (advanced d 1 (reread x.state.position))) (store_shown a)
+      first_done z =
+          record { refusal = refusal_is x f.turn inside; state = record_is f.turn z; store = store_is x f.turn inside f.store }
+
+      pub first_refused : (number a ≡ 0 → ⊥) → First d x (number a) x.state (store_shown a)
+      first_refused z =
+          record { refusal = refusal_is x f.turn inside; state = sym (ap (λ (y : Machine). y.state) (kept_is f.turn z)); store = store_is x f.turn inside f.store }

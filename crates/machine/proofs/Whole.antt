@@ -13,31 +13,33 @@ use Rattle.word.specs.Word.{pick}
 use Rattle.step.specs.declared.Status.{Status}
 use Rattle.step.specs.declared.Direction.{Direction}
 use Rattle.step.specs.declared.Direction.TheVariants.{Forward, Back}
-use Rattle.step.specs.declared.Attempt.{Attempt}
-use Rattle.step.specs.declared.Attempt.TheVariants.{Refused}
+use Rattle.step.specs.Step.{Attempt}
+use Rattle.std.specs.Prelude.{Err, Option, None}
 use Rattle.step.specs.declared.Store.{Store}
 use Rattle.step.specs.View.{nodes}
 use Rattle.step.specs.Sizes.{bad_sizes}
 use Rattle.word.specs.Refusal.{refuse}
-use Rattle.step.specs.Step.{no_store, number}
-use Rattle.machine.specs.Turn.{judged, planned, turned, plan_at}
+use Rattle.word.specs.Refusal.{number_of, number}
+use Rattle.word.proofs.Refusal.{number_above}
+use Rattle.machine.specs.Turn.{judged, planned, turned, plan_at, turned_at}
 use Rattle.machine.specs.Position.{end, is_last, advanced, position_after}
 use Rattle.machine.specs.Machine.{status_of, updated, Machine, left_as, at_position, state_of, view_of, wrong_sizes}
-use Rattle.machine.specs.Calls.{plan_of, view_after, accepted, refusal, next, found}
+use Rattle.machine.specs.Calls.{plan_of, view_after, refusal, next, found}
 use Rattle.machine.specs.Preview.{planned_store, store_by}
-use Rattle.machine.specs.InPlace.{Steps, last_refusal, First}
+use Rattle.machine.specs.InPlace.{Turns, last_refusal, First}
 use Rattle.machine.specs.Claims.{LastRefused, Unseen}
 use Rattle.machine.proofs.Claims.{next_position}
 use Rattle.machine.proofs.Sure.{uncounted}
 use Rattle.machine.proofs.Room.{advance_one, no_other}
+use Rattle.word.specs.declared.refusals.Refusal.TheVariants.{Sizes, Position}
 
-module _ {live : Bool} {d : Direction} (x : Machine) {mem : List ℕ} {w : ℕ} {at' : Status} {s : Store} {regs' mem' : List ℕ}
-    (f : Steps live d (status_of x.state) x.state.regs mem x.memory x.table w at' s regs' mem') (e : is_last d x.state.position ≡ false) where
+module _ {d : Direction} (x : Machine) {w : ℕ} {at' : Status} {regs' : List ℕ}
+    (f : Turns d (status_of x.state) x.state.regs x.memory x.table w at' regs') (e : is_last d x.state.position ≡ false) where
   plan_is : plan_at d false (status_of x.state) x.state.regs x.memory x.table ≡ plan_of d x
   plan_is = ap (λ (b : Bool). planned (state_of x).links d b (view_of x)) (sym e)
 
   pub refusal_is : w ≡ refusal d x
-  refusal_is = f.refusal ∙ ap number plan_is
+  refusal_is = f.refusal ∙ ap (λ (a : Attempt). number a) plan_is
 
   pub status_is : at' ≡ (view_after d x).at
   status_is = f.status ∙ ap (λ (a : Attempt). (turned d a (view_of x)).at) plan_is
@@ -57,47 +59,38 @@ module _ {live : Bool} {d : Direction} (x : Machine) {mem : List ℕ} {w : ℕ} 
       let registers = f.registers ∙ ap (λ (a : Attempt). (turned d a (view_of x)).regs) plan_is in
       λ j. updated x.state (position_is i p q j) (status_is j) (registers j)
 
-  pub memory_is : live ≡ true → x.memory ≡ mem → mem' ≡ (next d x).memory
-  memory_is l r = f.memory ∙ rw (l, plan_is, r)
+  pub memory_is : {mem' : List ℕ} → mem' ≡ (turned_at d false (status_of x.state) x.state.regs x.memory x.table).memory ++ drop x.state.m x.memory
+      → mem' ≡ (next d x).memory
+  memory_is h = h ∙ ap (λ (a : Attempt). (turned d a (view_of x)).memory ++ drop x.state.m x.memory) plan_is
 
-  pub store_is : live ≡ false → s ≡ store_by d x
-  store_is l = f.store ∙ rw (l, plan_is)
+  pub store_is : {s : Option Store} → s ≡ planned_store (plan_at d false (status_of x.state) x.state.regs x.memory x.table) (found d x) → s ≡ store_by d x
+  store_is h = h ∙ ap (λ (a : Attempt). planned_store a (found d x)) plan_is
 
 -- ---- at the last position a turn is refused by 10 or 21
 
-ten_or_21 : (b : Bool) → refuse b (Refused 10) (Refused 21) ≡ Refused (refuse b 10 21)
+ten_or_21 : (b : Bool) → ◌≡◌ {A = Attempt} (refuse b (Err Sizes) (Err Position)) (Err (refuse b Sizes Position))
 unfolding refuse
 ten_or_21 true = refl
 ten_or_21 false = refl
 
-plan_last : (d : Direction) (at : Status) (regs mem table : List ℕ) → plan_at d true at regs mem table ≡ Refused (refuse (bad_sizes at (take at.m mem) (nodes at table)) 10 21)
+plan_last : (d : Direction) (at : Status) (regs mem table : List ℕ) → plan_at d true at regs mem table ≡ Err (refuse (bad_sizes at (take at.m mem) (nodes at table)) Sizes Position)
 unfolding judged refuse
 plan_last Forward at regs mem table = ten_or_21 (bad_sizes at (take at.m mem) (nodes at table))
 plan_last Back at regs mem table = ten_or_21 (bad_sizes at (take at.m mem) (nodes at table))
 
-pub none_accepted : (b : Bool) → accepted (refuse b 10 21) ≡ 0
-unfolding refuse
-none_accepted true = refl
-none_accepted false = refl
-
-ten_or_21_above : (b : Bool) → ◌≢◌ {A = ℕ} (refuse b 10 21) 0
-unfolding refuse
-ten_or_21_above true e = omega arith
-ten_or_21_above false e = omega arith
-
 module _ (d : Direction) (x : Machine) (e : is_last d x.state.position ≡ true) where
-  last_is : plan_of d x ≡ Refused (last_refusal x)
+  last_is : plan_of d x ≡ Err (last_refusal x)
   last_is =
       ap (λ (b : Bool). planned (state_of x).links d b (view_of x)) e
       ∙ plan_last d (status_of x.state) x.state.regs x.memory x.table
 
-  pub last_refusal_lem : refusal d x ≡ last_refusal x
-  last_refusal_lem = ap number last_is
+  pub last_refusal_lem : refusal d x ≡ number_of (last_refusal x)
+  last_refusal_lem = ap (λ (a : Attempt). number a) last_is
 
   pub last_stands : refusal d x ≢ 0
-  last_stands z = ten_or_21_above (wrong_sizes x) (sym last_refusal_lem ∙ z)
+  last_stands z = let h = number_above (last_refusal x) in let e = sym last_refusal_lem ∙ z in omega arith
 
-  pub last_first : First d x (last_refusal x) x.state no_store
+  pub last_first : First d x (number_of (last_refusal x)) x.state None
   last_first =
       record {
         refusal = sym last_refusal_lem;
@@ -109,8 +102,13 @@ pub end_last : (d : Direction) → is_last d (end d) ≡ true
 end_last Forward = refl
 end_last Back = refl
 
+pub last_number : (b : Bool) → number_of (refuse b Sizes Position) ≡ refuse b 10 21
+unfolding refuse
+last_number true = refl
+last_number false = refl
+
 pub last_refused : LastRefused
-last_refused d x y n p e = p.refusal ∙ last_refusal_lem d x (ap (is_last d) e ∙ end_last d)
+last_refused d x y n p e = p.refusal ∙ (last_refusal_lem d x (ap (is_last d) e ∙ end_last d) ∙ last_number (wrong_sizes x))
 
 -- ---- before it no turn looks at the position
 

@@ -1,14 +1,16 @@
 -- A turn as a call makes it: of a machine, of which only its state counts.
-use Rattle.std.specs.Prelude.{ℕ, ◌≡◌, ◌++◌, eqb, drop}
+use Rattle.std.specs.Prelude.{ℕ, ◌≡◌, ◌++◌, eqb, drop, Result}
 use Rattle.word.specs.Word.{pick}
 use Rattle.step.specs.declared.Direction.{Direction}
-use Rattle.step.specs.declared.Attempt.{Attempt}
+use Rattle.step.specs.Step.{Attempt}
 use Rattle.step.specs.View.{View}
-use Rattle.step.specs.Step.{number}
+use Rattle.word.specs.Refusal.{number, kept}
+use Rattle.word.specs.declared.refusals.Refusal.{Refusal}
 use Rattle.machine.specs.Turn.{from, to, planned, turned}
 use Rattle.machine.specs.Position.{is_last, advanced, position_after}
 use Rattle.machine.specs.Machine.{status_of, updated, Machine, left_as, state_of, view_of, Bounded}
 use Rattle.machine.specs.declared.Record.{Record}
+use Rattle.machine.specs.declared.Turned.{Turned}
 
 -- ---- a turn
 
@@ -53,3 +55,7 @@ pub record TurnPromise (d : Direction) (x : Machine) (n : ℕ) (y : Machine) : T
   pub refusal : n ≡ refusal d x
   pub left : y ≡ next d x
   pub bounds : Bounded x
+
+-- what a call answers to C: the record that it was given where the turn is refused
+abbrev pub turned_of : Record → Result Record Refusal → Turned
+turned_of r a = record { state = kept r a; refusal = number a }

@@ -3,8 +3,8 @@ use Rattle.std.specs.Prelude.{ℕ, Bool, ℤ, pos, negsuc, ◌+ℤ◌, ◌-ℤ�
 use Rattle.std.specs.Int.Signed.{le_z}
 use Rattle.step.specs.declared.Direction.{Direction}
 use Rattle.step.specs.declared.Direction.TheVariants.{Forward, Back}
-use Rattle.step.specs.declared.Attempt.{Attempt}
-use Rattle.step.specs.declared.Attempt.TheVariants.{Refused, Does}
+use Rattle.step.specs.Step.{Attempt}
+use Rattle.std.specs.Prelude.{Err, Ok}
 
 abbrev pub largest : ℤ
 largest = pos 9223372036854775807
@@ -29,5 +29,5 @@ advanced Back k p = p -ℤ pos k
 
 -- after a turn of this plan
 abbrev pub position_after : Direction → Attempt → ℤ → ℤ
-position_after d (Refused n) p = p
-position_after d (Does e) p = advanced d 1 p
+position_after d (Err n) p = p
+position_after d (Ok e) p = advanced d 1 p

@@ -1,40 +1,45 @@
 -- The next turn, shown before it is made (document 02, #102): the turn's own plan, answered; the memory is only read.
-use Rattle.std.specs.Prelude.{ℕ, ◌<◌, ◌≤◌, ◌≡◌, ◌≢◌, Bool, not, ◌&&◌, List, eqb, get_or, set}
+use Rattle.std.specs.Prelude.{ℕ, ◌<◌, ◌≤◌, ◌≡◌, ◌≢◌, List, eqb, get_or, set, Option, Some, None, Result, Ok, Err}
 use Rattle.word.specs.Word.{pick}
 use Rattle.step.specs.declared.Direction.{Direction}
-use Rattle.step.specs.declared.Attempt.{Attempt}
-use Rattle.step.specs.declared.Attempt.TheVariants.{Refused, Does}
+use Rattle.step.specs.Step.{Attempt}
 use Rattle.step.specs.declared.Store.{Store}
 use Rattle.step.specs.View.{View}
-use Rattle.step.specs.Step.{no_store, store_of}
+use Rattle.step.specs.Step.{store_of}
 use Rattle.machine.specs.Machine.{Machine, left_as, state_of, Bounded}
 use Rattle.machine.specs.Calls.{plan_of, refusal, next, found, TurnPromise}
 use Rattle.machine.specs.declared.Record.{Record}
 use Rattle.machine.specs.declared.Preview.{Preview}
+use Rattle.machine.specs.declared.Foreseen.{Foreseen}
+use Rattle.word.specs.Refusal.{number_of}
+use Rattle.word.specs.declared.refusals.Refusal.{Refusal}
 
 -- the memory word that a plan would store, in the view s that its word finds
-abbrev pub planned_store : Attempt → View → Store
-planned_store (Refused n) s = no_store
-planned_store (Does e) s = store_of e s.regs
+abbrev pub planned_store : Attempt → View → Option Store
+planned_store (Err n) s = None
+planned_store (Ok e) s = store_of e s.regs
 
-abbrev pub store_by : Direction → Machine → Store
+abbrev pub store_by : Direction → Machine → Option Store
 store_by d x = planned_store (plan_of d x) (found d x)
 
--- what is reported of a turn with this refusal and record, which stores s where the word present is: a word changes if it is
--- another one
-abbrev pub changes : Store → ℕ → Bool
-changes s present = s.made && not (eqb present s.value)
+-- what it stores, where another word is present in the memory l: a word changes if it is another one
+abbrev pub changed : Option Store → List ℕ → Option Store
+changed None l = None
+changed (Some s) l = pick (eqb (get_or l s.address 0) s.value) None (Some s)
 
-abbrev pub reported : ℕ → Record → Store → ℕ → Preview
-reported refusal r s present =
-    let c = changes s present in
-    record { refusal = refusal; changes = pick c 1 0; address = pick c s.address 0; value = pick c s.value 0; state = r }
+-- what is reported of a turn with this refusal and record, by the word that changes
+abbrev pub reported : ℕ → Record → Option Store → Preview
+reported refusal r None = record { refusal = refusal; changes = 0; address = 0; value = 0; state = r }
+reported refusal r (Some s) = record { refusal = refusal; changes = 1; address = s.address; value = s.value; state = r }
+
+-- and so by what a preview answers
+abbrev pub preview_from : Record → Result Foreseen Refusal → Preview
+preview_from r (Ok s) = reported 0 s.state s.change
+preview_from r (Err e) = reported (number_of e) r None
 
 -- the answer: the refusal and the record of the turn, and the word that it would change
 abbrev pub preview_of : Direction → Machine → Preview
-preview_of d x =
-    let s = store_by d x in
-    reported (refusal d x) (next d x).state s (get_or (state_of x).words s.address 0)
+preview_of d x = reported (refusal d x) (next d x).state (changed (store_by d x) (state_of x).words)
 
 -- What a preview from x promises of its answer; and the bounds of its arguments, as of a turn's.
 pub record PreviewPromise (d : Direction) (x : Machine) (p : Preview) : Type 0 where

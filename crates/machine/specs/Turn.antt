@@ -6,12 +6,13 @@ use Rattle.qins.specs.Decode.{decode, start_word, finish_word}
 use Rattle.step.specs.declared.Direction.{Direction}
 use Rattle.step.specs.declared.Direction.TheVariants.{Forward, Back}
 use Rattle.step.specs.declared.Status.{Status}
-use Rattle.step.specs.declared.Attempt.{Attempt}
-use Rattle.step.specs.declared.Attempt.TheVariants.{Refused, Does}
+use Rattle.step.specs.Step.{Attempt}
+use Rattle.std.specs.Prelude.{Err, Ok}
 use Rattle.step.specs.View.{View, reg, with_reg, seen, nodes}
 use Rattle.step.specs.Sizes.{bad_sizes}
 use Rattle.word.specs.Refusal.{refuse}
 use Rattle.step.specs.Step.{shifted, performed, is_ready, attempt}
+use Rattle.word.specs.declared.refusals.Refusal.TheVariants.{Sizes, Outside, End, Landing, Position}
 
 -- ---- pc
 
@@ -68,17 +69,17 @@ finishes l i = eqb (get_or l i 0) finish_word
 -- those before the word's own attempt a; last: there is no position further this way; old is pc before it shrank
 unfoldable pub judged : List ℕ → Direction → Bool → ℕ → View → Attempt → Attempt
 judged t Forward last old s a =
-    refuse (bad_sizes s.at s.memory t) (Refused 10)
-    (refuse last (Refused 21)
-    (refuse (not (is_code s.at (pc s))) (Refused 11)
-    (refuse (finishes s.memory (pc s)) (Refused 12)
+    refuse (bad_sizes s.at s.memory t) (Err Sizes)
+    (refuse last (Err Position)
+    (refuse (not (is_code s.at (pc s))) (Err Outside)
+    (refuse (finishes s.memory (pc s)) (Err End)
     a)))
 judged t Back last old s a =
-    refuse (bad_sizes s.at s.memory t) (Refused 10)
-    (refuse last (Refused 21)
-    (refuse (is_ready s.at && starts s.at s.memory old) (Refused 12)
-    (refuse (not (is_code s.at (pc s))) (Refused 11)
-    (refuse (is_ready s.at && finishes s.memory (pc s)) (Refused 18)
+    refuse (bad_sizes s.at s.memory t) (Err Sizes)
+    (refuse last (Err Position)
+    (refuse (is_ready s.at && starts s.at s.memory old) (Err End)
+    (refuse (not (is_code s.at (pc s))) (Err Outside)
+    (refuse (is_ready s.at && finishes s.memory (pc s)) (Err Landing)
     a))))
 
 -- the operation at pc
@@ -91,10 +92,10 @@ executed t d s = attempt t d (present s) s
 
 -- and, forward, 18 behind it: the new pc, if it moved, is at start; no effect writes a code word, so the memory before it serves
 unfoldable pub landed : Direction → View → Attempt → Attempt
-landed Forward s (Refused n) = Refused n
-landed Forward s (Does e) =
+landed Forward s (Err n) = Err n
+landed Forward s (Ok e) =
     let s' = performed e s in
-    refuse (is_ready s'.at && starts s.at s.memory (new_pc Forward s')) (Refused 18) (Does e)
+    refuse (is_ready s'.at && starts s.at s.memory (new_pc Forward s')) (Err Landing) (Ok e)
 landed Back s a = a
 
 -- what a turn would do, or why it is refused, over what the word's own attempt is
@@ -106,8 +107,8 @@ planned t d last s = planned_by (executed t d) t d last s
 
 -- the view after the turn, the old one where it is refused
 abbrev pub turned : Direction → Attempt → View → View
-turned d (Refused n) s = s
-turned d (Does e) s = to d (performed e (from d s))
+turned d (Err n) s = s
+turned d (Ok e) s = to d (performed e (from d s))
 
 -- ---- the same of lent memory and table, whose first M and 9 N words count
 

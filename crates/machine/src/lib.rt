@@ -1,27 +1,28 @@
 // The register record and its turns.
 #![tactic(auto)]
 
-ghost use Rattle.std.specs.Prelude.{◌≡◌, ◌≤◌};
+ghost use Rattle.std.specs.Prelude.{◌≡◌, ◌≤◌, eqb};
+ghost use Rattle.word.specs.Refusal.{refuse, number, kept};
 ghost use Rattle.qins.specs.Decode.{is_instruction};
 ghost use Rattle.step.specs.declared.Direction.{Direction};
 ghost use Rattle.machine.specs.Machine.{status_of, record_at, positioned, with_status, new_record, zeros, wrong_sizes};
 ghost use Rattle.machine.specs.Lent.{at_entry, at_exit};
-ghost use Rattle.machine.specs.Calls.{TurnPromise};
+ghost use Rattle.machine.specs.Calls.{turned_of, TurnPromise};
 ghost use Rattle.machine.specs.Batch.{BatchPromise};
-ghost use Rattle.machine.specs.Preview.{reported, PreviewPromise};
+ghost use Rattle.machine.specs.Preview.{changed, preview_from, PreviewPromise};
 ghost use Rattle.machine.specs.Position.{advanced};
-ghost use Rattle.machine.specs.InPlace.{room, last_refusal, Runs};
+ghost use Rattle.machine.specs.InPlace.{room, last_refusal, Runs, First, shown_record, shown_store};
 
 mod cycle;
 mod position;
 
-use step::lent::{select, word_at};
-use step::perform::no_store;
+use step::lent::{front, look};
 use step::{Direction, Status, Store};
+use word::refusals::{Refusal, number_in};
 
-// Document 01's record: registers 0 pc, 1 br, 2 ro, 3 sp, 4-15 r1-r12; the node qifv and the wait
-// count qifw; and the sizes: K words of code, M of memory, N nodes. And document 02's position, from
-// any value: one more for each accepted turn forward, one less for each back.
+// The record: registers 0 pc, 1 br, 2 ro, 3 sp, 4-15 r1-r12; the node qifv and the wait count qifw; the sizes:
+// K words of code, M of memory, N nodes; and the position, from any value: one more for each accepted turn
+// forward, one less for each back. The fields of a status stand in it one by one, as C has them.
 #[repr(C)]
 #[derive(Clone, Copy)]
 pub struct Record {
@@ -34,8 +35,8 @@ pub struct Record {
     pub position: i64,
 }
 
-// What a turn answers: the new record and the refusal, 0 for none. The record is first, since a gap
-// before it would have it copied out of step with how it was written.
+// What a turn answers to C: the new record, or the given one, and the refusal, 0 for none. The record is first,
+// since a gap before it would have it copied out of step with how it was written.
 #[repr(C)]
 #[derive(Clone, Copy)]
 pub struct Turned {
@@ -43,8 +44,8 @@ pub struct Turned {
     pub refusal: u32,
 }
 
-// What a batch answers: the turns made, k, the refusal of the next one where they are fewer than asked for,
-// else 0, and the new record.
+// What a batch answers, as C has it: the turns made, k, the refusal of the next one where they are fewer than
+// asked for, else 0, and the new record. The turns stand beside a refusal, so this is no Result.
 #[repr(C)]
 #[derive(Clone, Copy)]
 pub struct Batch {
@@ -53,8 +54,15 @@ pub struct Batch {
     pub state: Record,
 }
 
-// What a preview answers: the turn's refusal; whether it would change a memory word, 1 or 0, that word's
-// address and new value, 0 where it would not; and the record after the turn.
+// What a preview foresees: the record after the turn, and the memory word that it would change, with its new value.
+#[derive(Clone, Copy)]
+pub struct Foreseen {
+    pub state: Record,
+    pub change: Option<Store>,
+}
+
+// The same for C: the turn's refusal, 0 for none; whether it would change a memory word, 1 or 0, that word's
+// address and new value, 0 where it would not; and the record after the turn, the given one where it is refused.
 #[repr(C)]
 #[derive(Clone, Copy)]
 pub struct Preview {
@@ -65,28 +73,14 @@ pub struct Preview {
     pub state: Record,
 }
 
-// What a run comes to: the turns made and the refusal as a batch answers them, the status and the
-// registers after them, and what its turn would store if it is not live. The record is not among it:
-// each caller builds its own, which is then copied less.
+// What a run comes to: the turns made, why there are no more where they are fewer than asked for, and the
+// status and the registers after them. The record is not among it: its caller builds it, and it is copied less.
 #[derive(Clone, Copy)]
 struct Ran {
     turns: u32,
-    refusal: u32,
+    refusal: Option<Refusal>,
     at: Status,
     regs: [u32; 16],
-    store: Store,
-}
-
-fn ends(turns: u32, refusal: u32, at: Status, regs: [u32; 16], store: Store) -> Ran
-    ensures { result ≡ record { turns = turns; refusal = refusal; at = at; regs = regs; store = store } }
-{
-    Ran {
-        turns,
-        refusal,
-        at,
-        regs,
-        store,
-    }
 }
 
 // The record of a status, registers and the position k turns further than p.
@@ -94,29 +88,47 @@ fn record_at(at: Status, regs: [u32; 16], d: Direction, k: u32, p: i64) -> Recor
     requires { k ≤ room d p }
     ensures { result ≡ record_at at regs (advanced d k p) }
 {
-    let further = position::advance(d, k, p);
-    Record::new(at, regs).at_position(further)
+    Record::new(at, regs).at_position(position::advance(d, k, p))
 }
 
-// What a preview reports: the turn, and the word that it would store where another one is present.
-fn report(refusal: u32, state: Record, s: Store, present: u32) -> Preview
-    ensures { result ≡ reported refusal state s present }
+// What is stored, where another word is present.
+fn changed(store: Option<Store>, words: &[u32]) -> Option<Store>
+    ensures { result ≡ changed store words.now }
 {
-    let changes = word::both(s.made, present != s.value);
-    Preview {
-        refusal,
-        changes: word::choose(changes, 1, 0),
-        address: word::choose(changes, s.address, 0),
-        value: word::choose(changes, s.value, 0),
-        state,
+    store.filter(|s| look(words, s.address as usize) != s.value)
+}
+
+impl Preview {
+    // For a call with the given record.
+    pub fn of(given: Record, answer: Result<Foreseen, Refusal>) -> Preview
+        ensures { result ≡ preview_from given answer }
+    {
+        let seen = answer.unwrap_or(Foreseen {
+            state: given,
+            change: None,
+        });
+        let Store { address, value } = seen.change.unwrap_or(Store {
+            address: 0,
+            value: 0,
+        });
+        Preview {
+            refusal: number_in(answer),
+            changes: u32::from(seen.change.is_some()),
+            address,
+            value,
+            state: seen.state,
+        }
     }
 }
 
+// Memory and table are lent apart from the record, and from each other, as C lends them.
 impl Record {
-    // The most that M and N may be, and the words of a node.
+    // The most that M and N may be, the words of so many nodes, and those of one.
     pub const MAX_WORDS: u32 = step::sizes::MAX_WORDS;
 
     pub const MAX_NODES: u32 = step::sizes::MAX_NODES;
+
+    pub const MAX_LINKS: usize = step::sizes::MAX_LINKS;
 
     pub const NODE_WORDS: usize = step::table::NODE_WORDS;
 
@@ -145,22 +157,17 @@ impl Record {
     pub fn at_position(self, p: i64) -> Record
         ensures { result ≡ positioned self p }
     {
-        let mut next = self;
-        next.position = p;
-        next
+        Record {
+            position: p,
+            ..self
+        }
     }
 
     // With another node, wait count and sizes.
     pub fn with_status(self, at: Status) -> Record
         ensures { result ≡ with_status self at }
     {
-        let mut next = self;
-        next.qifv = at.qifv;
-        next.qifw = at.qifw;
-        next.k = at.k;
-        next.m = at.m;
-        next.n = at.n;
-        next
+        Record::new(at, self.regs).at_position(self.position)
     }
 
     // What a turn sees of the record beside its registers.
@@ -180,127 +187,136 @@ impl Record {
     pub fn has_bad_sizes(self, mem: &[u32], table: &[u32]) -> bool
         ensures { result ≡ wrong_sizes (at_entry self mem.now table.now) }
     {
-        step::sizes::are_bad_sizes(self.status(), mem, table)
+        self.status().has_bad_sizes(mem, table)
     }
 
     // The refusal of a turn at the last position.
-    fn last_refusal(self, mem: &[u32], table: &[u32]) -> u32
+    #[tactic(auto, unfolding(word::specs::Refusal::refuse))]
+    fn last_refusal(self, mem: &[u32], table: &[u32]) -> Refusal
         ensures { result ≡ last_refusal (at_entry self mem.now table.now) }
     {
         if self.has_bad_sizes(mem, table) {
-            return 10;
+            return Refusal::Sizes;
         }
-        21
+        Refusal::Position
     }
 
-    // Turns until n are made or one is refused; where it is not live, it answers the first turn of them,
-    // made over shown, which is only read. The registers are taken out of the record once and put back
-    // once, and no more are made than the position has room for, so that no turn looks at it. The turn
-    // has this one caller, whatever is asked, so that it is inlined into the loop.
-    fn run(
-        self,
-        d: Direction,
-        n: u32,
-        live: bool,
-        mem: &mut [u32],
-        shown: &[u32],
-        table: &[u32],
-    ) -> Ran
-        ensures { Runs live d n (at_entry self mem.old table.now) shown.now result mem.new }
+    // Turns until n are made or one is refused. The registers are taken out of the record once and put
+    // back once, and no more are made than the position has room for, so that no turn looks at it.
+    fn run(self, d: Direction, n: u32, mem: &mut [u32], table: &[u32]) -> Ran
+        ensures { Runs d n (at_entry self mem.old table.now) result mem.new }
     {
         let mut regs = self.regs;
         let mut at = self.status();
         let most = position::limit(d, self.position, n);
-        let mut i = 0;
-        while i < most {
-            let t = cycle::turn(d, live, at, &mut regs, mem, shown, table);
-            let refusal = t.refusal;
-            let next = t.at;
-            let store = t.store;
-            if !word::both(refusal == 0, live) {
-                return ends(i, refusal, next, regs, store);
+        for i in 0..most {
+            match cycle::turn(d, at, &mut regs, mem, table) {
+                Ok(next) => at = next,
+                Err(refusal) => {
+                    return Ran {
+                        turns: i,
+                        refusal: Some(refusal),
+                        at,
+                        regs,
+                    };
+                }
             }
-            at = next;
-            i += 1;
         }
-        if most < n {
-            let refusal = self.last_refusal(select(live, mem, shown), table);
-            return ends(i, refusal, at, regs, no_store());
+        let refusal = if most < n {
+            Some(self.last_refusal(mem, table))
+        } else {
+            None
+        };
+        Ran {
+            turns: most,
+            refusal,
+            at,
+            regs,
         }
-        ends(i, 0, at, regs, no_store())
     }
 
     fn batch(self, d: Direction, n: u32, mem: &mut [u32], table: &[u32]) -> Batch
         ensures { BatchPromise d n (at_entry self mem.old table.now) result.turns result.refusal (at_exit result.state mem.new table.now) }
     {
-        let none = [0; 0];
-        let p = self.position;
-        let r = self.run(d, n, true, mem, &none, table);
-        let at = r.at;
-        let regs = r.regs;
-        let state = record_at(at, regs, d, r.turns, p);
+        let r = self.run(d, n, mem, table);
         Batch {
             turns: r.turns,
-            refusal: r.refusal,
-            state,
+            refusal: r.refusal.map_or(0, Refusal::number),
+            state: record_at(r.at, r.regs, d, r.turns, self.position),
         }
     }
 
-    // One turn: a run of one, not by way of a batch, whose record would be one copy more.
-    fn turn(self, d: Direction, mem: &mut [u32], table: &[u32]) -> Turned
-        ensures { TurnPromise d (at_entry self mem.old table.now) result.refusal (at_exit result.state mem.new table.now) }
+    // Refused where there is no position further this way.
+    #[tactic(auto, unfolding(word::specs::Refusal::refuse))]
+    fn begin(self, d: Direction, mem: &[u32], table: &[u32]) -> Result<(), Refusal>
+        ensures { result ≡ refuse (eqb (room d self.position) 0) (Err (last_refusal (at_entry self mem.now table.now))) (Ok tt) }
     {
-        let none = [0; 0];
-        let p = self.position;
-        let r = self.run(d, 1, true, mem, &none, table);
-        let at = r.at;
-        let regs = r.regs;
-        let state = record_at(at, regs, d, r.turns, p);
-        Turned {
-            refusal: r.refusal,
-            state,
+        if position::room(d, self.position) == 0 {
+            return Err(self.last_refusal(mem, table));
         }
+        Ok(())
     }
 
-    // One turn, shown: a run that is not live.
-    fn preview(self, d: Direction, mem: &[u32], table: &[u32]) -> Preview
-        ensures { PreviewPromise d (at_entry self mem.now table.now) result }
+    fn turn(self, d: Direction, mem: &mut [u32], table: &[u32]) -> Result<Record, Refusal>
+        ensures { TurnPromise d (at_entry self mem.old table.now) (number result) (at_exit (kept self result) mem.new table.now) }
     {
-        let mut none = [0; 0];
-        let p = self.position;
-        let r = self.run(d, 1, false, &mut none, mem, table);
-        let at = r.at;
-        let regs = r.regs;
-        let state = record_at(at, regs, d, word::choose(r.refusal == 0, 1, 0), p);
-        let s = r.store;
-        let present = word_at(mem, at.m, s.address);
-        report(r.refusal, state, s, present)
+        self.begin(d, mem, table)?;
+        let mut regs = self.regs;
+        let at = cycle::turn(d, self.status(), &mut regs, mem, table)?;
+        Ok(record_at(at, regs, d, 1, self.position))
     }
+
+    fn preview(self, d: Direction, mem: &[u32], table: &[u32]) -> Result<Foreseen, Refusal>
+        ensures { PreviewPromise d (at_entry self mem.now table.now) (preview_from self result) }
+    {
+        let (state, store) = self.show(d, mem, table)?;
+        Ok(Foreseen {
+            state,
+            change: changed(store, front(mem, self.m)),
+        })
+    }
+
+    // One turn, shown: the record after it, and the word that it would store.
+    fn show(
+        self,
+        d: Direction,
+        mem: &[u32],
+        table: &[u32],
+    ) -> Result<(Record, Option<Store>), Refusal>
+        ensures { First d (at_entry self mem.now table.now) (number result) (shown_record self result) (shown_store result) }
+    {
+        self.begin(d, mem, table)?;
+        let mut regs = self.regs;
+        let shown = cycle::show(d, self.status(), &mut regs, mem, table)?;
+        Ok((record_at(shown.at, regs, d, 1, self.position), shown.store))
+    }
+
+    // ---- a name for each direction, as the calls of C have them
 
     // One turn forward.
-    pub fn forward(self, mem: &mut [u32], table: &[u32]) -> Turned
-        ensures { TurnPromise Direction.Forward (at_entry self mem.old table.now) result.refusal (at_exit result.state mem.new table.now) }
+    pub fn forward(self, mem: &mut [u32], table: &[u32]) -> Result<Record, Refusal>
+        ensures { TurnPromise Direction.Forward (at_entry self mem.old table.now) (number result) (at_exit (kept self result) mem.new table.now) }
     {
         self.turn(Direction::Forward, mem, table)
     }
 
     // One turn back.
-    pub fn back(self, mem: &mut [u32], table: &[u32]) -> Turned
-        ensures { TurnPromise Direction.Back (at_entry self mem.old table.now) result.refusal (at_exit result.state mem.new table.now) }
+    pub fn back(self, mem: &mut [u32], table: &[u32]) -> Result<Record, Refusal>
+        ensures { TurnPromise Direction.Back (at_entry self mem.old table.now) (number result) (at_exit (kept self result) mem.new table.now) }
     {
         self.turn(Direction::Back, mem, table)
     }
 
     // The turn forward, shown and not made.
-    pub fn preview_forward(self, mem: &[u32], table: &[u32]) -> Preview
-        ensures { PreviewPromise Direction.Forward (at_entry self mem.now table.now) result }
+    pub fn preview_forward(self, mem: &[u32], table: &[u32]) -> Result<Foreseen, Refusal>
+        ensures { PreviewPromise Direction.Forward (at_entry self mem.now table.now) (preview_from self result) }
     {
         self.preview(Direction::Forward, mem, table)
     }
 
     // The turn back, shown and not made.
-    pub fn preview_back(self, mem: &[u32], table: &[u32]) -> Preview
-        ensures { PreviewPromise Direction.Back (at_entry self mem.now table.now) result }
+    pub fn preview_back(self, mem: &[u32], table: &[u32]) -> Result<Foreseen, Refusal>
+        ensures { PreviewPromise Direction.Back (at_entry self mem.now table.now) (preview_from self result) }
     {
         self.preview(Direction::Back, mem, table)
     }
@@ -320,14 +336,24 @@ impl Record {
     }
 }
 
-// A turn on the word alone is refused by 13 exactly where the word is no instruction. It goes through
-// the turn since a second caller of attempt would keep that from being inlined into the run.
+// What the record answers to C, which gets it back where the turn is refused.
+impl Turned {
+    pub fn of(given: Record, turn: Result<Record, Refusal>) -> Turned
+        ensures { result ≡ turned_of given turn }
+    {
+        Turned {
+            state: turn.unwrap_or(given),
+            refusal: number_in(turn),
+        }
+    }
+}
+
+// A turn on the word alone is refused by 13 exactly where the word is no instruction. By number: after `matches!` a proof
+// has no name for what the other refusals are.
 pub fn is_instruction(w: u32) -> bool
     ensures { result ≡ is_instruction w }
 {
     let mut mem = [w];
-    let table = [0; 0];
     let r = Record::zero().with_status(Status::sized(1, 1, 0));
-    let t = r.forward(&mut mem, &table);
-    t.refusal != 13
+    number_in(r.forward(&mut mem, &[])) != Refusal::Instruction.number()
 }

@@ -5,4 +5,4 @@ use Rattle.machine.proofs.is_instruction.Goals as goal
 
 pub returns : goal.returns
 returns c =
-    rw (c.forward-t.ensures.refusal, c.with_status-r.ensures, c.sized.ensures, c.zero.ensures) (ap not (told_by_13 _))
+    rw (c.number_in.ensures, c.number.ensures, c.forward.ensures.refusal, c.with_status-r.ensures, c.sized.ensures, c.zero.ensures) (ap not (told_by_13 _))

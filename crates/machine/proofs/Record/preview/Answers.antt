@@ -1,25 +1,26 @@
-use mathlib.Core.Path.{refl, ap, ◌∙◌}
-use Prim.Native.Nat.{ℕ}
-use native.Mathlib.Omega.{arith}
-use lib.ListN.{get_or, take}
-use mir.Syntax.{w64}
-use mir.Val.{SFits}
-use mir.Facts.{to_z-of_z}
-use Rattle.machine.specs.Machine.{machine_of}
+use mathlib.Core.Path.{◌≡◌, refl, sym, ◌∙◌}
+use Rattle.std.specs.Prelude.{Err, Ok}
+use Rattle.machine.specs.Machine.{Machine, machine_of, Bounded}
 use Rattle.machine.proofs.Given.{given_bounds}
-use Rattle.machine.proofs.Shown.{preview_is}
+use Rattle.machine.proofs.Shown.{preview_is, preview_refused}
 use borrow.Author.Rules.{rules}
 use Rattle.machine.proofs.Record.preview.Goals as goal
+
+pub returns-in_err-state : goal.returns-in_err-state
+returns-in_err-state c =
+    let g = c.args in
+    let x = machine_of g.self g.mem.now g.table.now in
+    let r : c.from_residual.result ≡ Err c.in_err-state.field-0.0 = search rules in
+    record {
+      answer = rw r (preview_refused g.d x c.in_err-state.ensures refl);
+      bounds = given_bounds x (search rules) (λ a. search rules) (search rules) (search rules);
+    }
 
 pub returns : goal.returns
 returns c =
     let g = c.args in
-    let f : SFits w64 g.self.position = search rules in
     let x = machine_of g.self g.mem.now g.table.now in
     record {
-      answer =
-          preview_is g.d x (c.run-r.ensures.first refl (omega arith))
-          (c.word_at-present.ensures ∙ ap (λ (m : ℕ). get_or (take m g.mem.now) c.run-r.result.store.address 0) c.run-r.ensures.m)
-          (c.report.ensures ∙ rw (c.record_at-state.ensures, c.choose.ensures, to_z-of_z f));
-      bounds = given_bounds x (search rules) (λ a. search rules) c.type_inv.mem f;
+      answer = preview_is g.d x c.in_ok-state.ensures (rw c.front.ensures at c.changed.ensures) refl;
+      bounds = given_bounds x (search rules) (λ a. search rules) (search rules) (search rules);
     }
