@@ -10,7 +10,7 @@ use Rattle.word.specs.Word.{pick}
 use Rattle.step.specs.declared.Direction.{Direction}
 use Rattle.step.specs.declared.Direction.TheVariants.{Forward, Back}
 use Rattle.step.specs.View.{by_way}
-use Rattle.step.specs.Step.{number}
+use Rattle.word.specs.Refusal.{number}
 use Rattle.machine.specs.Machine.{Machine, machine_of, State, state_of, excess_of, Bounded}
 use Rattle.machine.specs.Calls.{TurnPromise, accepted, refusal, next}
 use Rattle.machine.specs.Batch.{after, BatchPromise}
