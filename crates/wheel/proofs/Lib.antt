@@ -1,4 +1,3 @@
-pub mod Turns
 pub mod Taken
 pub mod Loop
 pub mod Circle

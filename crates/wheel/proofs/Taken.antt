@@ -1,32 +1,8 @@
--- What one sample does, from what the parts of its step promise. Assumes nothing.
-use Prim.Native.Nat.{ℕ, ◌+◌, ◌-◌, ◌≤◌}
-use mathlib.Core.Path.{◌≡◌, refl, sym, ap, subst, ◌∙◌}
-use mathlib.Core.Logic.{◌≢◌}
-use mathlib.Core.Bool.{Bool, true, false}
-use mathlib.Core.List.{List}
-use native.Mathlib.Omega.{arith}
-use lib.Dec.{eqb}
-use borrow.Author.Tests.{eq-eqb, ne_eqb, eqb-true}
+-- The counts grow by one at most. Assumes nothing.
+use Rattle.std.proofs.Common.{◌≡◌, ℕ, ◌+◌, ◌-◌, ◌≤◌, Bool, true, false, eqb, refl, arith}
+use borrow.Author.Tests.{eqb-true}
 use Rattle.word.specs.Word.{pick}
-use Rattle.machine.specs.Machine.{Machine, machine_of}
-use Rattle.machine.specs.declared.Record.{Record}
-use Rattle.wheel.specs.Wheel.{steps, fault, refusal_by, Counts, counted, ended, Wheel, wheel_at, moved, taken}
-use Rattle.wheel.proofs.Turns.{Makes}
-
-module _ (s : ℕ) (c : Counts) (x : Machine) {n : ℕ} (f : n ≡ fault c.last s) where
-  pub take_ends : n ≢ 0 → wheel_at (ended n c) x ≡ taken s (wheel_at c x)
-  unfolding taken
-  take_ends h = rw (ne_eqb (fault c.last s) 0 (λ e. h (f ∙ e))) (ap (λ (m : ℕ). wheel_at (ended m c) x) f)
-
-  pub take_moves : n ≡ 0 → {k i : ℕ} {r r' : Record} {mem table : List ℕ} {b : Counts} → k ≡ steps c.last s → Makes k x i (machine_of r mem table)
-      → (b ≡ counted k s i c) × (r' ≡ r) → wheel_at b (machine_of r' mem table) ≡ taken s (wheel_at c x)
-  unfolding taken
-  take_moves e {k} {i} {r} {r'} {mem} {table} {b} q p h =
-      rw (eq-eqb (fault c.last s) 0 (sym f ∙ e))
-      (subst (λ (m : ℕ). wheel_at b (machine_of r' mem table) ≡ moved m s (wheel_at c x)) q
-      (λ j. wheel_at ((h.0 ∙ ap (λ (i : ℕ). counted k s i c) p.0) j) ((ap (λ (r : Record). machine_of r mem table) h.1 ∙ p.1) j)))
-
--- ---- the counts grow by one at most
+use Rattle.wheel.specs.Wheel.{steps, fault, refusal_by, ended, Wheel, wheel_at, moved, taken}
 
 abbrev pub made : Wheel → ℕ
 made w = w.counts.forward + w.counts.back + w.counts.refused

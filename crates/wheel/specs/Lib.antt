@@ -1,2 +1,3 @@
 pub mod Wheel
+pub mod Samples
 pub mod Claims

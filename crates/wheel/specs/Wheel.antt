@@ -3,7 +3,8 @@ use Rattle.std.specs.Prelude.{ℕ, ◌+◌, ◌-◌, ◌%◌, ◌≡◌, List, [
 use Rattle.word.specs.Word.{pick, sub_word}
 use Rattle.word.specs.Refusal.{refuse}
 use Rattle.step.specs.declared.Direction.TheVariants.{Forward, Back}
-use Rattle.machine.specs.Machine.{Machine, Bounded}
+use Rattle.machine.specs.Machine.{Machine, machine_of, Bounded}
+use Rattle.machine.specs.declared.Record.{Record}
 use Rattle.machine.specs.Calls.{refusal, next, accepted}
 use Rattle.wheel.specs.declared.Wheeled.{Wheeled}
 
@@ -75,6 +76,10 @@ pub record Wheel : Type 0 where
 abbrev pub wheel_at : Counts → Machine → Wheel
 wheel_at c x = record { counts = c; machine = x }
 
+-- that of an answer so far, with this refusal
+abbrev pub wheel_of : ℕ → Wheeled → Machine → Wheel
+wheel_of n a x = wheel_at (ended n (counts_of a)) x
+
 -- a sample k steps from the last one
 abbrev pub moved : ℕ → ℕ → Wheel → Wheel
 moved k s w = wheel_at (counted k s (refusal_by k w.machine) w.counts) (next_by k w.machine)
@@ -95,6 +100,10 @@ abbrev pub follow_of : ℕ → List ℕ → Machine → Wheel
 follow_of given samples x =
     refuse (ltb 3 given) (wheel_at (ended 20 (started given)) x)
     (run samples (wheel_at (started given) x))
+
+-- the bounds of a record by itself
+abbrev pub RecordBounded : Record → Type 0
+RecordBounded r = Bounded (machine_of r [] [])
 
 -- What a call with these samples from x promises of its counts c and of the machine y that it leaves; and the bounds of its
 -- arguments, as of a turn's.

@@ -1,16 +1,23 @@
 // The wheel: encoder samples, each of which makes one turn or none.
 #![tactic(auto)]
 
-ghost use Rattle.std.specs.Prelude.{◌≡◌, ◌+◌, ◌^◌, ◌<◌, ◌≤◌};
-ghost use Rattle.word.specs.Word.{pick};
+ghost use Rattle.std.specs.Prelude.{◌≡◌, ◌+◌, ◌^◌, ◌<◌, IfOk};
+ghost use Rattle.word.specs.Refusal.{number};
+ghost use Rattle.step.specs.View.{by_way};
 ghost use Rattle.machine.specs.Lent.{at_entry, at_exit};
-ghost use Rattle.wheel.specs.Wheel.{place, steps, fault, counts_of, counted, wheel_at, taken, WheelPromise};
+ghost use Rattle.wheel.specs.Samples.{byte_of};
+ghost use Rattle.wheel.specs.Wheel.{counts_of, started, wheel_of, ended, moved, taken, RecordBounded, WheelPromise};
 
-use machine::{Record, Turned};
-use word::{choose, refused_if, wide};
+mod samples;
+
+use machine::Record;
+use samples::Sample;
+use step::Direction;
+use word::refusals::{Refusal, number_in};
 
 // What the samples of a call came to: turns accepted forward and back, and turns refused; the last sample
 // before any that ended the call, the given one if there is none; the refusal, 0 for none; and the new record.
+// C has the refusal as a number: counts and record stand beside it, so this is no Result.
 #[repr(C)]
 #[derive(Clone, Copy)]
 pub struct Wheeled {
@@ -22,105 +29,85 @@ pub struct Wheeled {
     pub state: Record,
 }
 
-// n where the test holds, else 0: no more than n, so that a count has room for it.
-fn only_if(test: bool, n: u64) -> u64
-    ensures { (result ≡ pick test n 0) × (result ≤ n) }
-{
-    if test { n } else { 0 }
-}
-
-// ---- a sample after another
-
-fn place_of(s: u32) -> u32
-    ensures { result ≡ place s }
-{
-    choose(s == 2, 3, choose(s == 3, 2, s))
-}
-
-fn steps_to(p: u32, s: u32) -> u32
-    ensures { result ≡ steps p s }
-{
-    word::sub_word(place_of(s), place_of(p)) % 4
-}
-
-// Not by early returns: that build made fewer samples per second (DECISIONS, "Refusals in order").
-fn fault_at(p: u32, s: u32) -> u32
-    ensures { result ≡ fault p s }
-{
-    refused_if(3 < s, 20, refused_if(steps_to(p, s) == 2, 19, 0))
-}
-
-// ---- the samples of a call
-
-// The counts have room: together they are at most the samples taken.
-fn count(k: u32, s: u32, t: Turned, w: Wheeled) -> Wheeled
-    requires { w.forward + w.back + w.refused + 1 < 2 ^ 64 }
-    ensures { (counts_of result ≡ counted k s t.refusal (counts_of w)) × (result.state ≡ t.state) }
-{
-    let accepted = only_if(t.refusal == 0, 1);
-    let state = t.state;
-    Wheeled {
-        forward: w.forward + only_if(k == 1, accepted),
-        back: w.back + only_if(k == 3, accepted),
-        refused: w.refused + (1 - accepted),
-        last: s,
-        refusal: 0,
-        state,
+// Memory and table are lent apart, as C lends them.
+impl Wheeled {
+    // A turn is counted by its direction, or as refused.
+    fn turn(&mut self, d: Direction, mem: &mut [u32], table: &[u32])
+        requires { self.old.forward + self.old.back + self.old.refused + 1 < 2 ^ 64 }
+        ensures { wheel_of 0 self.new (at_exit self.new.state mem.new table.now)
+            ≡ moved (by_way d 1 3) self.old.last (wheel_of 0 self.old (at_entry self.old.state mem.old table.now)) }
+    {
+        let turn = match d {
+            Direction::Forward => self.state.forward(mem, table),
+            Direction::Back => self.state.back(mem, table),
+        };
+        let Ok(state) = turn else {
+            self.refused += 1;
+            return;
+        };
+        self.state = state;
+        match d {
+            Direction::Forward => self.forward += 1,
+            Direction::Back => self.back += 1,
+        }
     }
-}
 
-// Counted in each branch by itself: with one count after all three, a turn's record is copied once more.
-fn take(s: u32, w: Wheeled, mem: &mut [u32], table: &[u32]) -> Wheeled
-    requires { w.forward + w.back + w.refused + 1 < 2 ^ 64 }
-    ensures { wheel_at (counts_of result) (at_exit result.state mem.new table.now) ≡ taken s (wheel_at (counts_of w) (at_entry w.state mem.old table.now)) }
-{
-    let n = fault_at(w.last, s);
-    if n != 0 {
-        let mut end = w;
-        end.refusal = n;
-        return end;
+    // The wheel moves from the last sample to this one, or stands still and is refused.
+    #[tactic(auto, unfolding(crate::specs::Wheel::taken, word::specs::Refusal::refuse))]
+    fn take(
+        &mut self,
+        last: Sample,
+        byte: u8,
+        mem: &mut [u32],
+        table: &[u32],
+    ) -> Result<Sample, Refusal>
+        requires at { self.old.last ≡ byte_of last }
+        requires room { self.old.forward + self.old.back + self.old.refused + 1 < 2 ^ 64 }
+        ensures taken { wheel_of (number result) self.new (at_exit self.new.state mem.new table.now)
+            ≡ taken byte (wheel_of 0 self.old (at_entry self.old.state mem.old table.now)) }
+        ensures ok { IfOk result (λ s. self.new.last ≡ byte_of s) }
+    {
+        let next = Sample::try_from(byte)?;
+        if let Some(d) = last.turn_to(next)? {
+            self.turn(d, mem, table);
+        }
+        self.last = u32::from(byte);
+        Ok(next)
     }
-    let k = steps_to(w.last, s);
-    let r = w.state;
-    if k == 1 {
-        let t = r.forward(mem, table);
-        return count(k, s, t, w);
+
+    // The samples up to the first that is refused, and that refusal.
+    fn take_all(
+        &mut self,
+        given: u8,
+        samples: &[u8],
+        mem: &mut [u32],
+        table: &[u32],
+    ) -> Result<(), Refusal>
+        requires start { counts_of self.old ≡ started given }
+        requires bounds { RecordBounded self.old.state }
+        ensures { WheelPromise given samples.now (at_entry self.old.state mem.old table.now) (ended (number result) (counts_of self.new)) (at_exit self.new.state mem.new table.now) }
+    {
+        let mut last = Sample::try_from(given)?;
+        for byte in samples {
+            last = self.take(last, *byte, mem, table)?;
+        }
+        Ok(())
     }
-    if k == 3 {
-        let t = r.back(mem, table);
-        return count(k, s, t, w);
-    }
-    let t = Turned {
-        refusal: 0,
-        state: r,
-    };
-    count(k, s, t, w)
 }
 
 // Turns the machine as the samples say, up to the first that ends the call.
 pub fn follow(r: Record, given: u8, samples: &[u8], mem: &mut [u32], table: &[u32]) -> Wheeled
     ensures { WheelPromise given samples.now (at_entry r mem.old table.now) (counts_of result) (at_exit result.state mem.new table.now) }
 {
-    let last = wide(given);
     let mut w = Wheeled {
         forward: 0,
         back: 0,
         refused: 0,
-        last,
+        last: u32::from(given),
         refusal: 0,
         state: r,
     };
-    if 3 < last {
-        w.refusal = 20;
-        return w;
-    }
-    let mut i = 0;
-    while i < samples.len() {
-        w = take(wide(samples[i]), w, mem, table);
-        if w.refusal != 0 {
-            return w;
-        }
-        i += 1;
-    }
+    let ended = w.take_all(given, samples, mem, table);
+    w.refusal = number_in(ended);
     w
 }
