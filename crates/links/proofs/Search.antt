@@ -5,7 +5,11 @@ use Prim.Native.Nat.{ℕ, zero, suc, ◌+◌, ◌<◌, ◌≤◌}
 use native.Mathlib.Omega.{arith}
 use native.Mathlib.Decide.{dec_le}
 use Rattle.word.specs.Word.{pick}
-use Rattle.links.specs.Check.{first_of}
+use Rattle.std.specs.Option.{MatchOption}
+use Rattle.std.specs.Prelude.{Option, Some, None}
+use borrow.Author.Tests.{lt-ltb, le-ltb, ltb-true, ltb-false}
+use lib.Dec.{ltb}
+use Rattle.links.specs.Check.{first_of, lowest_of}
 
 -- of the n numbers from s on, the test fails at those below i: the loop's invariant
 pub record Searching (test : ℕ → Bool) (s n i : ℕ) : Type 0 where
@@ -51,18 +55,34 @@ module _ (test : ℕ → Bool) where
     pub found_is : (p : ℕ) → Found test s n p → first_of test s n ≡ p
     found_is p f = let q = first_of test s n in let g = found n s in omega (arith, not_below p q f g, not_below q p g f)
 
-    module _ (i : ℕ) (v : Searching test s n i) where
-      pub search_hits : test i ≡ true → i ≡ first_of test s n
-      search_hits k = sym (found_is i (record { passed = v; holds = λ h. k }))
+    -- what a search over the numbers from s to e answers
+    pub lowest_from : (e : ℕ) → s + n ≡ e → (r : Option ℕ)
+        → MatchOption r ((v : ℕ) → s ≤ v → v < e → test v ≡ false) (λ i. (s ≤ i) × (i < e) × (test i ≡ true) × ((v : ℕ) → s ≤ v → v < i → test v ≡ false))
+        → r ≡ lowest_of test s n
+    lowest_from e q None h =
+        let p = found_is (s + n) (record { passed = record { least = omega arith; most = omega arith; below = λ v l k. h v l (omega arith) }; holds = λ k. absurd (omega arith) }) in
+        rw (p, le-ltb (s + n) (s + n) (omega arith)) refl
+    lowest_from e q (Some i) (l, k, t, b) =
+        let p = found_is i (record { passed = record { least = l; most = omega arith; below = b }; holds = λ _. t }) in
+        rw (p, lt-ltb i (s + n) (omega arith)) refl
 
-      pub search_ends : s + n ≤ i → i ≡ first_of test s n
-      search_ends h = sym (found_is i (record { passed = v; holds = λ k. absurd (omega arith) }))
+    -- and what such an answer tells of the first number
+    pub lowest_there : (i : ℕ) → Some i ≡ lowest_of test s n → (i ≡ first_of test s n) × (i < s + n)
+    lowest_there i e = go (ltb p (s + n)) refl e
+      where
+        p : ℕ
+        p = first_of test s n
 
-      pub search_goes_on : i < s + n → test i ≡ false → Searching test s n (i + 1)
-      search_goes_on h e =
-          let l = v.least in
-          record { least = omega arith; most = omega arith; below = λ u p q. last u p q (dec_le i u) }
-        where
-          last : (u : ℕ) → s ≤ u → u < i + 1 → Dec (i ≤ u) → test u ≡ false
-          last u p q (yes l) = let a : u ≡ i = omega arith in rw a e
-          last u p q (no l) = v.below u p (omega arith)
+        go : (b : Bool) → ltb p (s + n) ≡ b → Some i ≡ pick b (Some p) None → (i ≡ p) × (i < s + n)
+        go true t e = let q : i ≡ p = cc in (q, rw q (ltb-true _ _ t))
+        go false t e = cc
+
+    pub lowest_none : None ≡ lowest_of test s n → s + n ≤ first_of test s n
+    lowest_none e = go (ltb p (s + n)) refl e
+      where
+        p : ℕ
+        p = first_of test s n
+
+        go : (b : Bool) → ltb p (s + n) ≡ b → None ≡ pick b (Some p) None → s + n ≤ p
+        go true t e = cc
+        go false t e = ltb-false _ _ t

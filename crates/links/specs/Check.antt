@@ -1,16 +1,22 @@
 -- Check (document 01, "Image").
-use Rattle.std.specs.Prelude.{ℕ, zero, suc, Bool, not, ◌&&◌, ◌||◌, List, eqb, ltb, leb, get_or}
+use Rattle.std.specs.Prelude.{ℕ, zero, suc, ◌+◌, Bool, not, ⊤, Option, Some, None, Result, Ok, Err, ◌&&◌, ◌||◌, List, eqb, ltb, leb, get_or}
 use Rattle.word.specs.Word.{pick}
 use Rattle.word.specs.Refusal.{refuse}
 use Rattle.qins.specs.Decode.{is_instruction}
 use Rattle.step.specs.Table.{fc, lc, cf, cl, nx, pr, is_node, link}
 use Rattle.machine.specs.Machine.{Machine, state_of, wrong_sizes}
 use Rattle.links.specs.declared.Checked.{Checked}
+use Rattle.links.specs.declared.Fault.{Fault}
+use Rattle.links.specs.declared.Fault.TheVariants.{Sizes, CodeWord, Link}
 
 -- the first of the n numbers from i on where the test holds, i + n where there is none
 unfoldable pub first_of : (ℕ → Bool) → ℕ → ℕ → ℕ
 first_of test i zero = i
 first_of test i (suc n) = pick (test i) i (first_of test (suc i) n)
+
+-- the same number, where there is one
+abbrev pub lowest_of : (ℕ → Bool) → ℕ → ℕ → Option ℕ
+lowest_of test i n = pick (ltb (first_of test i n) (i + n)) (Some (first_of test i n)) None
 
 -- ---- links
 
@@ -52,6 +58,13 @@ bad_node x = first_of (bad_links x) 1 x.state.n
 
 abbrev pub checked_as : ℕ → ℕ → Checked
 checked_as n p = record { refusal = n; place = p }
+
+-- what the call's answer says
+abbrev pub checked_of : Result ⊤ Fault → Checked
+checked_of (Ok _) = checked_as 0 0
+checked_of (Err Sizes) = checked_as 10 0
+checked_of (Err (CodeWord a)) = checked_as 7 a
+checked_of (Err (Link v)) = checked_as 8 v
 
 abbrev pub check_of : Machine → Checked
 check_of x =

@@ -1,53 +1,44 @@
 // Links of the qif table, node by node.
-ghost use Rattle.std.specs.Prelude.{◌≡◌, ◌<◌, take};
-ghost use Rattle.step.specs.Table.{table_words};
-ghost use Rattle.links.specs.Check.{first_of, returns, children_return, unpaired};
+ghost use Rattle.std.specs.Prelude.{◌≡◌, ◌<◌};
+ghost use Rattle.step.specs.View.{words_in};
+ghost use Rattle.links.specs.Check.{lowest_of, returns, children_return, unpaired};
 
-use step::table::{CF, CL, NX, PR, first_child, is_node, last_child, link_of};
+use step::table::{CF, CL, NX, Nodes, PR, first_child, last_child};
 
-// Link j of node v is 0, or leads to a node from which link g or link h leads back.
-fn is_returned(table: &[u32], n: u32, v: u32, j: usize, g: usize, h: usize) -> bool
-    ensures { result ≡ returns (take (table_words n) table.now) n v j g h }
+// Links by number, as in step's table. Link j of node v is 0, or leads to a node from which link g or link h leads back.
+#[tactic(auto, unfolding(crate::specs::Check::returns))]
+fn is_returned(t: Nodes<'_>, v: u32, j: usize, g: usize, h: usize) -> bool
+    ensures { result ≡ returns (words_in t.entry) t.entry.n v j g h }
 {
-    let u = link_of(table, n, v, j);
-    let back = word::either(link_of(table, n, u, g) == v, link_of(table, n, u, h) == v);
-    word::either(u == 0, word::both(is_node(n, u), back))
+    let u = t.link(v, j);
+    u == 0 || t.has(u) && (t.link(u, g) == v || t.link(u, h) == v)
 }
 
 // Both children of node v for coin x lead back to it.
-fn are_children_returned(table: &[u32], n: u32, v: u32, x: u32) -> bool
-    ensures { result ≡ children_return (take (table_words n) table.now) n v x }
+#[tactic(auto, unfolding(crate::specs::Check::children_return))]
+fn are_children_returned(t: Nodes<'_>, v: u32, x: u32) -> bool
+    ensures { result ≡ children_return (words_in t.entry) t.entry.n v x }
 {
-    word::both(
-        is_returned(table, n, v, first_child(x), CF, CF),
-        is_returned(table, n, v, last_child(x), CL, CL),
-    )
+    is_returned(t, v, first_child(x), CF, CF) && is_returned(t, v, last_child(x), CL, CL)
 }
 
 // Node v has a link that is not 0 and not paired.
-pub(crate) fn is_unpaired(table: &[u32], n: u32, v: u32) -> bool
-    ensures { result ≡ unpaired (take (table_words n) table.now) n v }
+#[tactic(auto, unfolding(crate::specs::Check::unpaired))]
+pub(crate) fn is_unpaired(t: Nodes<'_>, v: u32) -> bool
+    ensures { result ≡ unpaired (words_in t.entry) t.entry.n v }
 {
-    let cf = is_returned(table, n, v, CF, first_child(0), first_child(1));
-    let cl = is_returned(table, n, v, CL, last_child(0), last_child(1));
-    let nx = is_returned(table, n, v, NX, PR, PR);
-    let pr = is_returned(table, n, v, PR, NX, NX);
-    let links = word::both(nx, word::both(pr, word::both(cf, cl)));
-    let from_1 = word::both(are_children_returned(table, n, v, 1), links);
-    !word::both(are_children_returned(table, n, v, 0), from_1)
+    !(are_children_returned(t, v, 0)
+        && are_children_returned(t, v, 1)
+        && is_returned(t, v, NX, PR, PR)
+        && is_returned(t, v, PR, NX, NX)
+        && is_returned(t, v, CF, first_child(0), first_child(1))
+        && is_returned(t, v, CL, last_child(0), last_child(1)))
 }
 
-// The lowest node with an unpaired link, n + 1 where there is none.
-pub(crate) fn first_unpaired(table: &[u32], n: u32) -> u32
-    requires { n < 4294967295 }
-    ensures { result ≡ first_of (unpaired (take (table_words n) table.now) n) 1 n }
+// The lowest node with an unpaired link.
+pub(crate) fn first_unpaired(t: Nodes<'_>) -> Option<u32>
+    requires { t.n < 4294967295 }
+    ensures { result ≡ lowest_of (unpaired (words_in t.entry) t.entry.n) 1 t.entry.n }
 {
-    let mut v: u32 = 1;
-    while v <= n {
-        if is_unpaired(table, n, v) {
-            return v;
-        }
-        v += 1;
-    }
-    v
+    (1..t.n + 1).find(|v| is_unpaired(t, *v))
 }

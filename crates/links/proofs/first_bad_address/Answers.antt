@@ -1,19 +1,13 @@
-use mathlib.Core.Path.{ap, sym, ◌∙◌}
-use mathlib.Core.Bool.{not}
-use Prim.Native.Nat.{ℕ}
-use native.Mathlib.Omega.{arith}
-use lib.ListN.{take}
-use Rattle.qins.specs.Decode.{is_instruction}
+use Rattle.std.proofs.Common.{rules, ◌≡◌, true, false, arith}
+use Rattle.std.proofs.lemmas.Iterator.{first_from_Range}
+use borrow.Author.Tests.{tests}
 use Rattle.links.specs.Check.{no_instruction}
-use Rattle.links.proofs.Search.{search_hits, search_ends}
+use Rattle.links.proofs.Search.{lowest_from}
 use Rattle.links.proofs.first_bad_address.Goals as goal
-
-pub returns-then-not-is_instruction : goal.returns-then-not-is_instruction
-returns-then-not-is_instruction c =
-    let g = c.args in let l = c.loop-a in let e = ap (λ (w : ℕ). not (is_instruction w)) (sym c.word_at.ensures) ∙ ap not (sym c.is_instruction.ensures) in
-    search_hits (no_instruction (take g.m g.mem.now)) 0 g.k l.a l.invariant (e ∙ c.if-not-is_instruction.true-raw)
 
 pub returns : goal.returns
 returns c =
-    let g = c.args in let l = c.loop-a in
-    search_ends (no_instruction (take g.m g.mem.now)) 0 g.k l.a l.invariant (omega arith)
+    let g = c.args in
+    let test = no_instruction g.words.now in
+    lowest_from test 0 g.k g.k (omega arith) c.find.result
+    (first_from_Range _ _ _ c.find.result (λ x. test x ≡ true) (λ x. test x ≡ false) c.find.ensures.ran (λ x q k. search (rules, tests)) (λ x q k. search (rules, tests)))
