@@ -68,8 +68,8 @@ pub record Saving (x : Machine) (out : List ℕ) : Type 0 where
   pub sizes : RightSizes (status_of x.state) x.memory x.table
   pub room : back_of newest x.state ≤ length out
 
-pub save_accepted : {x : Machine} {out : List ℕ} {n : ℕ} → SaveDecided x out n → n ≡ 0 → Saving x out
-save_accepted {x} {out} d z =
-    let (w, p) = refuse_passed (wrong_sizes x) _ _ _ (sym d.answer ∙ z) (λ e. omega (arith, e)) in
+pub save_accepted : {x : Machine} {out : List ℕ} → SaveDecided x out 0 → Saving x out
+save_accepted {x} {out} d =
+    let (w, p) = refuse_passed (wrong_sizes x) _ _ _ (sym d.answer) (λ e. omega (arith, e)) in
     let (r, _) = refuse_passed (ltb (length out) (back_of newest x.state)) _ _ _ p (λ e. omega (arith, e)) in
     record { right = w; sizes = wrong_sizes_right x w; room = ltb-false _ _ r }

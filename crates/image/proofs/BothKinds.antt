@@ -1,12 +1,13 @@
 -- Both kinds of image: the bytes of a position, what load refuses first, and the position of the first kind. Assumes nothing.
-use Prim.Native.Nat.{ℕ, zero, suc, ◌*◌, ◌<◌, ◌≤◌}
+use Prim.Native.Nat.{ℕ, ◌*◌, ◌<◌, ◌≤◌}
 use mathlib.Core.Path.{◌≡◌, refl, ap, ◌∙◌}
 use mathlib.Core.Bool.{Bool, true, false}
-use mathlib.Core.List.{List, [], ◌∷◌}
+use mathlib.Core.List.{List}
 use native.Mathlib.Omega.{arith}
 use lib.Dec.{eqb}
 use lib.IntN.{pos}
-use lib.ListN.{length, take, drop}
+use lib.ListN.{length, take, drop_of_length-le}
+use Rattle.std.proofs.lemmas.List.{length-take}
 use borrow.Author.Tests.{lt-ltb, le-leb, lt-leb}
 use Rattle.word.specs.Word.{pick}
 use Rattle.word.specs.Lists.{same}
@@ -67,17 +68,10 @@ load_order =
 
 -- ---- the position of the first kind
 
-none_past : (n m : ℕ) (l : List ℕ) → n ≤ m → drop m (take n l) ≡ []
-none_past zero zero l h = refl
-none_past zero (suc m) l h = refl
-none_past (suc n) zero l h = absurd (omega arith)
-none_past (suc n) (suc m) [] h = refl
-none_past (suc n) (suc m) (x ∷ l) h = none_past n m l (omega arith)
-
 -- a word after the first kind's 22 is 0
 word_lacking : (s : List ℕ) (i : ℕ) → 22 ≤ i → word_at (take 88 s) i ≡ 0
 unfolding word_at
-word_lacking s i h = rw (none_past 88 (4 * i) s (omega arith))
+word_lacking s i h = rw (drop_of_length-le (take 88 s) {i = 4 * i} (omega (arith, length-take 88 s)))
 
 position_lacking : (s : List ℕ) → last_bytes 4 s ≡ qrm1.last → (state_in s).position ≡ pos 0
 unfolding record_in

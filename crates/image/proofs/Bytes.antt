@@ -1,14 +1,17 @@
 -- Words as bytes: lengths, one word more, and reading what was written. Assumes nothing.
 use mathlib.Core.Path.{◌≡◌, refl, sym, ap, ◌∙◌}
-use mathlib.Core.List.{List, [], ◌∷◌, ◌++◌, append_assoc, append-nil}
-use Prim.Native.Nat.{ℕ, zero, suc, ◌+◌, ◌*◌, ◌/◌, ◌%◌, ◌^◌, ◌<◌, ◌≤◌}
+use mathlib.Core.List.{List, [], ◌∷◌, ◌++◌, append_assoc}
+use Prim.Native.Nat.{ℕ, zero, suc, ◌+◌, ◌-◌, ◌*◌, ◌/◌, ◌%◌, ◌^◌, ◌<◌, ◌≤◌}
 use native.Mathlib.Omega.{arith}
-use native.Mathlib.Nat.{add-zero, div-div-eq-div-mul, mod-eq_of_lt}
+use native.Mathlib.Nat.{add-zero}
 use native.Mathlib.Numerals.{add-one}
 use lib.ListN.{length, get_or, set, take, drop, length-append, drop_of_length-le, get_or-append}
-use lib.Seq.{sets-eq, set_at, drop-cons, drop_at, drop-drop, drop-length, take_at, take-length, take-suc, length-take-le, get_or-drop}
+use lib.Seq.{set_at, drop-cons, take-suc, length-take-le, get_or-drop}
+use borrow.Rule.Slice.PartMut.{mid_of, put_mid}
+use Rattle.std.proofs.lemmas.Nat.{from_le_bytes-to_le_bytes_4}
 use Rattle.step.specs.View.{Words}
 use Rattle.image.specs.Format.{word_bytes, bytes_of, word_at, words_of}
+use Rattle.image.proofs.Parts.{behind, put_front}
 
 -- ---- lengths
 
@@ -27,50 +30,23 @@ unfolding bytes_of
 bytes_append [] b = refl
 bytes_append (w ∷ a) b = ap (λ (l : List ℕ). word_bytes w ++ l) (bytes_append a b)
 
--- ---- one word more, and all of them
+-- ---- one word more
 
 pub read_step : (s d : List ℕ) (i : ℕ) → i < length d → set (words_of i s ++ drop i d) i (word_at s i) ≡ words_of (i + 1) s ++ drop (i + 1) d
 unfolding words_of
 read_step s d i h =
     rw (add-one i, drop-cons d i 0) (set_at (words_of i s) _ _ (word_at s i) i (length_words i s) ∙ sym (append_assoc (words_of i s) (word_at s i ∷ []) (drop (suc i) d)))
 
-pub read_done : (s d l : List ℕ) (i : ℕ) → length d ≤ i → i ≤ length d → l ≡ words_of i s ++ drop i d → l ≡ words_of (length d) s
-read_done s d l i h k e =
-    let f : i ≡ length d = omega arith in
-    e ∙ rw (f, drop-length d, append-nil)
-
--- four stores in a row
-pub four : (l : List ℕ) (j a b c d : ℕ) → j + 4 ≤ length l
-    → set (set (set (set l j a) (j + 1) b) (j + 2) c) (j + 3) d ≡ take j l ++ (a ∷ b ∷ c ∷ d ∷ drop (j + 4) l)
-four l j a b c d h =
-    let e : j + 1 ≡ suc j = omega arith in
-    let f : j + 2 ≡ suc (suc j) = omega arith in
-    let g : j + 3 ≡ suc (suc (suc j)) = omega arith in
-    rw (e, f, g) (sets-eq (a ∷ b ∷ c ∷ d ∷ []) l j h ∙ append_assoc (take j l) (a ∷ b ∷ c ∷ d ∷ []) (drop (j + 4) l))
-
-pub write_step : (ws out : List ℕ) (i : ℕ) (l : List ℕ) → i < length ws → 4 * length ws ≤ length out
-    → l ≡ bytes_of (take i ws) ++ drop (4 * i) out
-    → take (4 * i) l ++ (word_bytes (get_or ws i 0) ++ drop (4 * i + 4) l) ≡ bytes_of (take (i + 1) ws) ++ drop (4 * (i + 1)) out
+pub write_step : (ws out l : List ℕ) (i : ℕ) → i < length ws → l ≡ bytes_of (take i ws) ++ drop (4 * i) out
+    → put_mid (4 * i) (4 * i + 4 - 4 * i) l (word_bytes (get_or ws i 0)) ≡ bytes_of (take (i + 1) ws) ++ drop (4 * (i + 1)) out
 unfolding bytes_of
-write_step ws out i l h k e =
+write_step ws out l i h e =
+    let front : length (bytes_of (take i ws)) ≡ 4 * i = length_bytes (take i ws) ∙ ap (λ (n : ℕ). 4 * n) (length-take-le i ws (omega arith)) in
     let f : 4 * (i + 1) ≡ 4 * i + 4 = omega arith in
-    rw (rest, e, take_at (bytes_of (take i ws)) (drop (4 * i) out) (4 * i) front, f, add-one i, take-suc ws i 0 h, bytes_append)
-    (sym (append_assoc (bytes_of (take i ws)) (word_bytes (get_or ws i 0)) (drop (4 * i + 4) out)))
-  where
-    front : length (bytes_of (take i ws)) ≡ 4 * i
-    front = length_bytes (take i ws) ∙ ap (λ (n : ℕ). 4 * n) (length-take-le i ws (omega arith))
-
-    rest : drop (4 * i + 4) l ≡ drop (4 * i + 4) out
-    rest =
-        sym (drop-drop 4 (4 * i) l)
-        ∙ ap (drop 4) (ap (drop (4 * i)) e ∙ drop_at (bytes_of (take i ws)) (drop (4 * i) out) (4 * i) front)
-        ∙ drop-drop 4 (4 * i) out
-
-pub write_done : (ws out l : List ℕ) (i : ℕ) → length ws ≤ i → i ≤ length ws
-    → l ≡ bytes_of (take i ws) ++ drop (4 * i) out → l ≡ bytes_of ws ++ drop (4 * length ws) out
-write_done ws out l i h k e =
-    let f : i ≡ length ws = omega arith in
-    e ∙ rw (f, take-length ws)
+    let w = word_bytes (get_or ws i 0) in
+    put_front (4 * i) 4 l w
+    ∙ behind (bytes_of (take i ws)) w out l (w ++ drop 4 (mid_of (4 * i) (length l - 4 * i) l)) (4 * i) 4 front e refl
+    ∙ rw (f, add-one i, take-suc ws i 0 h, bytes_append)
 
 -- ---- a word read
 
@@ -81,11 +57,7 @@ word_bytes_lem s i = rw (get_or-drop (4 * i) s 0 0, get_or-drop (4 * i) s 1 0, g
 
 -- the four bytes of a word make it up
 whole : (w : ℕ) → w < 2 ^ 32 → w % 256 + 256 * (w / 256 % 256 + 256 * (w / 65536 % 256 + 256 * (w / 16777216 % 256))) ≡ w
-whole w h =
-    let e : w / 256 / 256 ≡ w / 65536 = div-div-eq-div-mul w 256 256 in
-    let f : w / 65536 / 256 ≡ w / 16777216 = div-div-eq-div-mul w 65536 256 in
-    let top : w / 16777216 < 256 = omega arith in
-    rw (mod-eq_of_lt top) (omega arith)
+whole w h = let e = from_le_bytes-to_le_bytes_4 w h in omega arith
 
 -- word i of written words is their element i, 0 past their end
 pub read_back : (ws : List ℕ) (i : ℕ) → Words ws → word_at (bytes_of ws) i ≡ get_or ws i 0

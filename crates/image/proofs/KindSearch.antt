@@ -1,25 +1,25 @@
 -- The search for a kind by its last bytes. Assumes nothing.
-use mathlib.Core.Path.{◌≡◌, sym, ◌∙◌}
-use mathlib.Core.Bool.{true, false}
-use mathlib.Core.List.{List}
-use Prim.Native.Nat.{ℕ, ◌+◌, ◌<◌, ◌≤◌}
-use native.Mathlib.Numerals.{add-one}
-use lib.ListN.{length, get_or, drop, drop_of_length-le}
-use lib.Seq.{drop-cons}
+use mathlib.Core.Path.{◌≡◌, refl}
+use mathlib.Core.Bool.{Bool, true, false, cond}
+use mathlib.Core.List.{List, [], ◌∷◌}
+use Prim.Native.Nat.{ℕ}
+use Rattle.std.specs.Prelude.{Option, Some, None, unwrap_or, option_map}
+use Rattle.std.specs.List.{find}
+use Rattle.word.specs.Word.{pick}
 use Rattle.word.specs.Lists.{same}
 use Rattle.image.specs.declared.kinds.Kind.{Kind}
 use Rattle.image.specs.Format.{oldest, kind_by}
 
--- the loop's invariant: from row i on the search finds what it finds in all rows
-module _ (ks : List Kind) (l : List ℕ) (i : ℕ) (v : kind_by (drop i ks) l ≡ kind_by ks l) where
-  pub kind_hit : (d : Kind) → i < length ks → same l (get_or ks i d).last ≡ true → get_or ks i d ≡ kind_by ks l
-  unfolding kind_by
-  kind_hit d h e = sym (rw (drop-cons ks i d h, e)) ∙ v
+found : (t : Bool) (kind : Kind) (rest : Option Kind) → unwrap_or (cond t (Some kind) rest) oldest ≡ pick t kind (unwrap_or rest oldest)
+found true kind rest = refl
+found false kind rest = refl
 
-  pub kind_next : (d : Kind) → i < length ks → same l (get_or ks i d).last ≡ false → kind_by (drop (i + 1) ks) l ≡ kind_by ks l
-  unfolding kind_by
-  kind_next d h e = rw (add-one i) (sym (rw (drop-cons ks i d h, e)) ∙ v)
+-- the first kind that the test finds, the oldest where there is none
+pub kind_found : (l : List ℕ) (ks : List Kind) → unwrap_or (find (λ kind. same l kind.last) ks) oldest ≡ kind_by ks l
+unfolding kind_by
+kind_found l [] = refl
+kind_found l (kind ∷ ks) = rw (found, kind_found l ks)
 
-  pub kind_none : length ks ≤ i → oldest ≡ kind_by ks l
-  unfolding kind_by
-  kind_none h = sym (rw (drop_of_length-le ks {i = i} h)) ∙ v
+pub copy_of : (o : Option Kind) → option_map (λ kind. kind) o ≡ o
+copy_of None = refl
+copy_of (Some kind) = refl

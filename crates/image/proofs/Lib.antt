@@ -4,7 +4,6 @@ pub mod Parts
 pub mod KindSearch
 pub mod Written
 pub mod Accepted
-pub mod Refusals
 pub mod Answers
 pub mod RoundTrip
 pub mod BothKinds

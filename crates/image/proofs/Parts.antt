@@ -1,12 +1,11 @@
 -- Parts of a slice as lists: the part from an index on, and what a write into it leaves. Assumes nothing.
 use mathlib.Core.Path.{◌≡◌, sym, ap, ◌∙◌}
 use mathlib.Core.List.{List, [], ◌++◌, append_assoc, append-nil}
-use Prim.Native.Nat.{ℕ, ◌+◌, ◌-◌, ◌<◌, ◌≤◌}
+use Prim.Native.Nat.{ℕ, ◌+◌, ◌-◌}
 use native.Mathlib.Omega.{arith}
 use lib.ListN.{length, drop, length-drop, drop_of_length-le}
-use lib.Seq.{take_all, take_at, drop_at, drop-drop, drop-length}
+use lib.Seq.{take_all, take_at, drop_at, drop-drop}
 use borrow.Rule.Slice.PartMut.{mid_of, put_mid}
-use Rattle.image.specs.Format.{last_bytes}
 
 -- what lies from a on
 pub all_left : (a : ℕ) (l : List ℕ) → mid_of a (length l - a) l ≡ drop a l
@@ -15,20 +14,8 @@ all_left a l = take_all (length l - a) (drop a l) (simp length-drop (omega arith
 pub left_long : (a : ℕ) (l : List ℕ) → length (mid_of a (length l - a) l) ≡ length l - a
 left_long a l = ap length (all_left a l) ∙ length-drop a l
 
--- n bytes have room there
-pub room : (a n : ℕ) (l : List ℕ) → a + n ≤ length l → n ≤ length (mid_of a (length l - a) l)
-room a n l h = rw (left_long a l) (omega arith)
-
 none_left : (a : ℕ) (l : List ℕ) → drop (length l - a) (drop a l) ≡ []
 none_left a l = drop_of_length-le (drop a l) {i = length l - a} (simp length-drop (omega arith))
-
--- nothing from an index past the end on
-pub rest_none : (s : List ℕ) (a : ℕ) → length s < a → mid_of (length s) (length s - length s) s ≡ drop a s
-rest_none s a h = all_left (length s) s ∙ drop-length s ∙ sym (drop_of_length-le s {i = a} (omega arith))
-
--- the last n bytes are all where there are fewer
-pub last_all : (s : List ℕ) (n : ℕ) → length s < n → s ≡ last_bytes n s
-last_all s n h = let e : length s - n ≡ 0 = omega arith in rw e
 
 -- q written at the front of the part from a on, after p
 pub behind : (p q out l part : List ℕ) (a n : ℕ) → length p ≡ a → l ≡ p ++ drop a out

@@ -211,7 +211,7 @@ save_accepts x out a out' s w h = s.decided.answer ∙ rw (w, le-ltb (length out
 
 pub saved_loads : SavedLoads
 saved_loads x out out' s =
-    let a = save_accepted s.decided refl in
+    let a = save_accepted s.decided in
     let z = a.sizes in
     let v : Savable x = record { sizes = a.right; bounds = s.decided.bounds } in
     let row = takes_both.second in

@@ -1,19 +1,14 @@
 -- The trailer and the image as their writers leave them: words, words after them, and bytes after all. Assumes nothing.
-use mathlib.Core.Path.{◌≡◌, refl, sym, ap, ◌∙◌, subst}
+use mathlib.Core.Path.{◌≡◌, refl, sym, ◌∙◌, subst}
 use mathlib.Core.List.{List, [], ◌∷◌, ◌++◌, append_assoc}
-use Prim.Native.Nat.{ℕ, ◌+◌, ◌-◌, ◌*◌, ◌/◌, ◌%◌, ◌^◌}
+use Prim.Native.Nat.{ℕ, ◌+◌, ◌-◌, ◌*◌}
 use native.Mathlib.Omega.{arith}
-use lib.IntN.{ℤ}
 use lib.ListN.{length, drop, length-append}
-use mir.Syntax.{w64}
-use mir.Val.{SFits, of_z}
-use mir.Facts.{to_z-of_z}
 use borrow.Rule.Slice.PartMut.{mid_of, put_mid}
-use Rattle.word.proofs.Bits.{reread}
 use Rattle.step.specs.Table.{table_words}
 use Rattle.machine.specs.declared.Record.{Record}
 use Rattle.image.specs.declared.kinds.Kind.{Kind}
-use Rattle.image.specs.Format.{bytes_of, newest, regs_at, qifv_at, word_count, trailer_length, back_of, position_words, further, tail_words, trailer_words, trailer_bytes, image}
+use Rattle.image.specs.Format.{bytes_of, newest, regs_at, qifv_at, word_count, trailer_length, back_of, further, tail_words, trailer_words, trailer_bytes, image}
 use Rattle.image.proofs.Bytes.{length_bytes, bytes_append}
 use Rattle.image.proofs.Parts.{behind}
 
@@ -35,14 +30,7 @@ module _ (a out l : List ℕ) (x : ℕ) (e : x ≡ 4 * length a) (f : Front a ou
 
 -- ---- the trailer that save writes
 
--- the two words of a position that is read from its bits
-pub position_written : {p : ℤ} {bits low high : ℕ} → SFits w64 p → bits ≡ of_z w64 (reread p) → low ≡ bits % 2 ^ 32 → high ≡ bits / 2 ^ 32
-    → low ∷ high ∷ [] ≡ position_words p
-position_written {p} f e l h =
-    let k = e ∙ ap (of_z w64) (to_z-of_z f) in
-    rw (l, h, k)
-
--- qifv and qifw, and the position after them
+-- qifv and qifw, and the position after them: cited by nothing, and named in docs/PORT.md
 pub tail_written : (r : Record) (out l : List ℕ) {low high : ℕ} → low ∷ high ∷ [] ≡ further r → Front (r.qifv ∷ r.qifw ∷ low ∷ high ∷ []) out l
     → Front (tail_words newest r) out l
 tail_written r out l e f = subst (λ (w : List ℕ). Front (r.qifv ∷ r.qifw ∷ w) out l) e f

@@ -1,10 +1,12 @@
 -- Load and preface (document 01, "Image"; document 02, #104), of a file s whose trailer says t.
-use Rattle.std.specs.Prelude.{ℕ, ◌-◌, ◌*◌, ◌≡◌, Bool, not, ◌&&◌, List, [], ◌++◌, eqb, ltb, leb, length, take, drop}
+use Rattle.std.specs.Prelude.{ℕ, ◌-◌, ◌*◌, ◌≡◌, Bool, not, ◌&&◌, List, [], ◌++◌, eqb, ltb, leb, length, take, drop, Result, Ok, Err}
 use Rattle.word.specs.Word.{pick}
 use Rattle.word.specs.Lists.{same}
+use Rattle.word.specs.declared.refusals.Refusal.{Refusal}
 use Rattle.word.specs.Refusal.{refuse}
 use Rattle.step.specs.Table.{table_words}
 use Rattle.step.specs.Sizes.{in_range, is_enough}
+use Rattle.machine.specs.declared.Record.{Record}
 use Rattle.machine.specs.Machine.{status_of, zeros, Machine, machine_of}
 use Rattle.image.specs.declared.trailer.Trailer.{Trailer}
 use Rattle.image.specs.Format.{words_of, oldest, trailer_length, back_of, last_bytes, trailer_of}
@@ -65,6 +67,11 @@ read_in t s mem table =
 -- the machine that load leaves: as it was read, or zeros on untouched words
 abbrev pub load_of : Trailer → List ℕ → List ℕ → List ℕ → Machine
 load_of t s mem table = pick (eqb (load_refusal t s mem table) 0) (read_in t s mem table) (machine_of zeros mem table)
+
+-- the record in load's answer, zeros where it is refused
+abbrev pub loaded_or_zero : Result Record Refusal → Record
+loaded_or_zero (Ok r) = r
+loaded_or_zero (Err e) = zeros
 
 -- What a load of file into mem and table promises of its refusal n, and of the machine x that its record and the lent words at
 -- exit are.

@@ -2,10 +2,11 @@
 #![tactic(auto)]
 
 ghost use Rattle.std.specs.Prelude.{◌≡◌, ◌++◌, ◌*◌, ◌^◌, ◌<◌, ◌≤◌, length, drop};
+ghost use Rattle.word.specs.Refusal.{number};
 ghost use Rattle.step.specs.Table.{table_words};
 ghost use Rattle.machine.specs.Lent.{at_entry, at_exit};
 ghost use Rattle.image.specs.Format.{newest, back_of, image};
-ghost use Rattle.image.specs.Load.{load_refusal, filled, LoadPromise, preface_of};
+ghost use Rattle.image.specs.Load.{load_refusal, filled, loaded_or_zero, LoadPromise, preface_of};
 ghost use Rattle.image.specs.Save.{SaveDecided, SavePromise};
 
 mod kinds;
@@ -14,12 +15,12 @@ mod words;
 
 use kinds::NEWEST;
 use machine::Record;
-use step::sizes::is_enough;
 use step::table::table_words;
-use trailer::{Trailer, back_of, file_refusal, read_trailer, start_of};
+use trailer::{Trailer, read_trailer, write_trailer};
+use word::refusals::{Refusal, number_in};
 use words::{read_words, write_words};
 
-// What load answers: the refusal, 0 for none, and the record, zeros where it is refused.
+// What load answers, for C: the refusal's number, 0 for none, and the record, zeros where it is refused.
 #[repr(C)]
 #[derive(Clone, Copy)]
 pub struct Loaded {
@@ -27,21 +28,31 @@ pub struct Loaded {
     pub state: Record,
 }
 
+impl From<Result<Record, Refusal>> for Loaded {
+    ghost from_gives = { λ answer loaded. loaded ≡ record { refusal = number answer; state = loaded_or_zero answer } };
+
+    fn from(answer: Result<Record, Refusal>) -> Loaded {
+        Loaded {
+            refusal: number_in(answer),
+            state: answer.unwrap_or(Record::zero()),
+        }
+    }
+}
+
 // ---- load and preface
 
-// Load's refusal, 0 for none: the file's, then 6.
-fn load_refusal(t: Trailer, file: &[u8], mem: &[u32], table: &[u32]) -> u32
-    ensures { result ≡ load_refusal t file.now mem.now table.now }
-{
-    let of_file = file_refusal(t, file);
-    if of_file != 0 {
-        return of_file;
+impl Trailer {
+    // Load's refusal: the file's, then 6.
+    #[tactic(auto, unfolding(crate::specs::Load::load_refusal, word::specs::Refusal::refuse))]
+    fn check_load(self, file: &[u8], mem: &[u32], table: &[u32]) -> Result<(), Refusal>
+        ensures { number result ≡ load_refusal self file.now mem.now table.now }
+    {
+        self.check_file(file)?;
+        if !self.state.status().is_enough(mem, table) {
+            return Err(Refusal::Lent);
+        }
+        Ok(())
     }
-    let r = t.state;
-    if !is_enough(r.status(), mem, table) {
-        return 6;
-    }
-    0
 }
 
 // Fills the first m words of mem and the first n of table from an image.
@@ -50,26 +61,20 @@ fn fill(image: &[u8], m: usize, n: usize, mem: &mut [u32], table: &mut [u32])
     ensures { (mem.new ≡ filled m image.now mem.old)
         × (table.new ≡ filled n (drop (4 * m) image.now) table.old) }
 {
-    let at = 4 * m;
     read_words(image, &mut mem[..m]);
-    read_words(&image[at..], &mut table[..n]);
+    read_words(&image[4 * m..], &mut table[..n]);
 }
 
-pub fn load(file: &[u8], mem: &mut [u32], table: &mut [u32]) -> Loaded
-    ensures { LoadPromise file.now mem.old table.old result.refusal (at_exit result.state mem.new table.new) }
+// The lent memory and table are two slices here and below, as C lends them.
+pub fn load(file: &[u8], mem: &mut [u32], table: &mut [u32]) -> Result<Record, Refusal>
+    ensures { LoadPromise file.now mem.old table.old (number result) (at_exit (loaded_or_zero result) mem.new table.new) }
 {
     let t = read_trailer(file);
-    let refusal = load_refusal(t, file, mem, table);
-    if refusal != 0 {
-        return Loaded {
-            refusal,
-            state: Record::zero(),
-        };
-    }
+    t.check_load(file, mem, table)?;
     let r = t.state;
-    let at = start_of(t, file);
+    let at = t.start_in(file);
     fill(&file[at..], r.m as usize, table_words(r.n), mem, table);
-    Loaded { refusal, state: r }
+    Ok(r)
 }
 
 // The front of the caller's own file, all before the first memory byte.
@@ -77,11 +82,10 @@ pub fn preface(file: &[u8]) -> &[u8]
     ensures { result.now ≡ preface_of file.now }
 {
     let t = read_trailer(file);
-    if file_refusal(t, file) != 0 {
+    if t.check_file(file).is_err() {
         return &file[..0];
     }
-    let at = start_of(t, file);
-    &file[..at]
+    &file[..t.start_in(file)]
 }
 
 // ---- save
@@ -96,31 +100,28 @@ fn write_image(r: Record, mem: &[u32], table: &[u32], out: &mut [u8])
     let end = at + 4 * table.len();
     write_words(mem, out);
     write_words(table, &mut out[at..]);
-    trailer::write_trailer(r, &mut out[end..]);
+    write_trailer(r, &mut out[end..]);
 }
 
-// Save's refusal, 0 for none; and the bounds of save's arguments, here where the types give them.
-fn save_refusal(r: Record, mem: &[u32], table: &[u32], out: &[u8]) -> u32
-    ensures { SaveDecided (at_entry r mem.now table.now) out.now result }
+// Save's refusal; and the bounds of save's arguments, here where the types give them.
+fn check_save(r: Record, mem: &[u32], table: &[u32], out: &[u8]) -> Result<(), Refusal>
+    ensures { SaveDecided (at_entry r mem.now table.now) out.now (number result) }
 {
     if r.has_bad_sizes(mem, table) {
-        return 10;
+        return Err(Refusal::Sizes);
     }
-    if out.len() < back_of(NEWEST, r) {
-        return 9;
+    if out.len() < NEWEST.back_of(r) {
+        return Err(Refusal::Output);
     }
-    0
+    Ok(())
 }
 
-pub fn save(r: Record, mem: &[u32], table: &[u32], out: &mut [u8]) -> u32
-    ensures { SavePromise (at_entry r mem.now table.now) out.old result out.new }
+pub fn save(r: Record, mem: &[u32], table: &[u32], out: &mut [u8]) -> Result<(), Refusal>
+    ensures { SavePromise (at_entry r mem.now table.now) out.old (number result) out.new }
 {
-    let answer = save_refusal(r, mem, table, out);
-    if answer != 0 {
-        return answer;
-    }
+    check_save(r, mem, table, out)?;
     let m = r.m as usize;
     let links = table_words(r.n);
     write_image(r, &mem[..m], &table[..links], out);
-    answer
+    Ok(())
 }

@@ -1,7 +1,6 @@
-use mathlib.Core.Path.{sym}
+use native.Mathlib.Omega.{arith}
 use Rattle.image.proofs.Bytes.{word_bytes_lem}
 use Rattle.image.proofs.words.read_word.Goals as goal
 
 pub returns : goal.returns
-returns c =
-    let g = c.args in simp (c.byte_at-4.ensures.0, c.byte_at-3.ensures.0, c.byte_at-2.ensures.0, c.byte_at.ensures.0) (sym (word_bytes_lem g.s.now g.i))
+returns c = let e = word_bytes_lem c.args.s.now c.args.i in omega arith
