@@ -71,12 +71,11 @@ module _ (x : Machine) (limit : ℕ) (scratch : List ℕ) where
 
   -- ---- 10 and 22
 
-  pub refused_promise : (n : ℕ) (a : Made) → n ≡ start → ¬ (n ≡ 0) → a ≡ made_as n 0 r
-      → MakePromise x limit scratch a.refusal a.cycles (left_as x a.state x.memory) scratch
-  refused_promise n a e h q =
+  pub refused_promise : (n : ℕ) → n ≡ start → ¬ (n ≡ 0) → MakePromise x limit scratch n 0 (left_as x r x.memory) scratch
+  refused_promise n e h =
       let no : eqb start 0 ≡ false = ne_eqb start 0 (λ z. h (e ∙ z)) in
       record {
-        answer = q ∙ (ap (λ (i : ℕ). made_as i 0 r) e ∙ sym (ap (λ (b : Bool). pick b (answer_of r (outcome_of x limit)) (made_as start 0 r)) no));
+        answer = ap (λ (i : ℕ). made_as i 0 r) e ∙ sym (ap (λ (b : Bool). pick b (answer_of r (outcome_of x limit)) (made_as start 0 r)) no);
         memory = refl;
         nodes = sym (ap (λ (b : Bool). pick b (drawn_by (outcome_of x limit) ++ drop most_words x.table) x.table) no);
         behind = refl;

@@ -11,7 +11,7 @@ use lib.Seq.{length-take-le, take-append-le, get_or-take}
 use borrow.Author.Tests.{lt-ltb, le-leb, eqb-true, eqb-false}
 use Rattle.word.specs.Word.{pick}
 use Rattle.step.specs.declared.Direction.TheVariants.{Forward}
-use Rattle.step.specs.declared.Attempt.TheVariants.{Refused}
+use Rattle.std.specs.Prelude.{Err}
 use Rattle.step.specs.Table.{table_words}
 use Rattle.word.specs.Refusal.{refuse}
 use Rattle.step.specs.Sizes.{in_range, bad_sizes}
@@ -41,6 +41,7 @@ use Rattle.maker.proofs.Followed.{machine_follows, at_finish}
 use Rattle.maker.proofs.Numbers.{Numbered, branch_numbered}
 use Rattle.maker.proofs.Links.{made_paired, made_zeros, node_passes, check_passes}
 use Rattle.maker.proofs.Call.{Ready, ready}
+use Rattle.word.specs.declared.refusals.Refusal.TheVariants.{End}
 
 abbrev zeros : ℕ → List ℕ
 zeros n = replicate n 0
@@ -130,7 +131,7 @@ module _ (x : Machine) (limit : ℕ) (p : Walk) (z : View) (e : outcome_of x lim
   unfolding last
   goes c b = machine_follows limit 8 s z p walk_is (t p few) sized (holds p few) c b
 
-  stands : planned_idle (t p few) last ≡ Refused 12
+  stands : planned_idle (t p few) last ≡ Err End
   unfolding last judged refuse bad_sizes in_range
   stands =
       let f = at_finish limit 8 s z p walk_is (t p few) in

@@ -1,9 +1,9 @@
 -- The kind of a word, by its fields. Assumes nothing.
-use mathlib.Core.Path.{◌≡◌, refl, sym, ap, ◌∙◌}
+use mathlib.Core.Path.{◌≡◌, refl, sym, ap, ap₂, ◌∙◌}
 use mathlib.Core.Bool.{Bool, true, false, ◌&&◌, ◌||◌}
 use Prim.Native.Nat.{ℕ}
 use lib.Dec.{eqb}
-use borrow.Author.Tests.{eqb-true}
+use borrow.Author.Tests.{eqb-true, ne_eqb}
 use Rattle.word.specs.Word.{pick}
 use Rattle.word.proofs.Words.{and_true}
 use Rattle.qins.specs.Op.{Op}
@@ -83,21 +83,19 @@ idle_kind w = go (eqb (opcode w) 32) (eqb (opcode w) 33) refl refl
     go false true e f = gate 33 f refl
     go false false e f = refl
 
--- ---- as the code finds it; t: the word names reg1 alone
+-- ---- as the code finds it: t tells whether the word names reg1 alone
 
-module _ (w : ℕ) (t : Bool) (h : t ≡ (bare (low w) && names_one (reg1 w) (reg2 w))) where
-  kind_is : kind_by (opcode w) (reg1 w) t ≡ kind_of (idle_op w)
-  kind_is = ap (kind_by (opcode w) (reg1 w)) h ∙ sym (idle_kind w ∙ decode_kind w)
+pub kind_is : (w o : ℕ) (t u : Bool) → u ≡ (bare (low w) && names_one (reg1 w) (reg2 w)) → opcode w ≡ o → u ≡ t → kind_by o (reg1 w) t ≡ kind_of (idle_op w)
+kind_is w o t u h e f = ap₂ (λ (i : ℕ) (b : Bool). kind_by i (reg1 w) b) (sym e) (sym f ∙ h) ∙ sym (idle_kind w ∙ decode_kind w)
 
-  pub opens : (eqb (opcode w) 24 && t) ≡ true → Opens (reg1 w) ≡ kind_of (idle_op w)
-  opens e = sym (ap (λ (b : Bool). pick b (Opens (reg1 w)) (pick (eqb (opcode w) 25 && t) (Closes (reg1 w)) Plain)) e) ∙ kind_is
+pub not_alone : (o a : ℕ) → Plain ≡ kind_by o a false
+not_alone o a = go (eqb o 24) (eqb o 25)
+  where
+    go : (x y : Bool) → Plain ≡ pick (x && false) (Opens a) (pick (y && false) (Closes a) Plain)
+    go true true = refl
+    go true false = refl
+    go false true = refl
+    go false false = refl
 
-  module _ (e : (eqb (opcode w) 24 && t) ≡ false) where
-    rest_is : pick (eqb (opcode w) 25 && t) (Closes (reg1 w)) Plain ≡ kind_of (idle_op w)
-    rest_is = sym (ap (λ (b : Bool). pick b (Opens (reg1 w)) (pick (eqb (opcode w) 25 && t) (Closes (reg1 w)) Plain)) e) ∙ kind_is
-
-    pub closes : (eqb (opcode w) 25 && t) ≡ true → Closes (reg1 w) ≡ kind_of (idle_op w)
-    closes f = sym (ap (λ (b : Bool). pick b (Closes (reg1 w)) Plain) f) ∙ rest_is
-
-    pub neither : (eqb (opcode w) 25 && t) ≡ false → Plain ≡ kind_of (idle_op w)
-    neither f = sym (ap (λ (b : Bool). pick b (Closes (reg1 w)) Plain) f) ∙ rest_is
+pub other : (o a : ℕ) → ¬ (o ≡ 24) → ¬ (o ≡ 25) → Plain ≡ kind_by o a true
+other o a n m = rw (ne_eqb o 24 n, ne_eqb o 25 m)

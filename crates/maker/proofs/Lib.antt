@@ -5,6 +5,7 @@ pub mod Sound
 pub mod Same
 pub mod Drawn
 pub mod Links
+pub mod Refusals
 pub mod Fields
 pub mod Registers
 pub mod Effects
@@ -14,7 +15,7 @@ pub mod Turns
 pub mod Followed
 pub mod Stepped
 pub mod Rooms
-pub mod Copies
+pub mod Compared
 pub mod Loops
 pub mod Forking
 pub mod Wholes

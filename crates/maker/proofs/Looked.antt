@@ -6,8 +6,8 @@ use Prim.Native.Nat.{ℕ}
 use Rattle.word.specs.Word.{pick}
 use Rattle.word.specs.Refusal.{refuse}
 use Rattle.qins.specs.Op.Op.{Qif, Fiq}
-use Rattle.step.specs.declared.Attempt.{Attempt}
-use Rattle.step.specs.declared.Attempt.TheVariants.{Refused, Does}
+use Rattle.step.specs.Step.{Attempt}
+use Rattle.std.specs.Prelude.{Err, Ok}
 use Rattle.step.specs.declared.Direction.TheVariants.{Forward}
 use Rattle.step.specs.declared.Effect.{Effect}
 use Rattle.step.specs.View.{View, placed}
@@ -41,7 +41,7 @@ pub record AtFiq (s : View) : Type 0 where
 pub record AtPlain (s z : View) : Type 0 where
   pub plain : kind_of (op_at s) ≡ Plain
   pub e : Effect
-  pub does : landed Forward (placed 0 0 0 s) (attempt [] Forward (op_at s) (placed 0 0 0 s)) ≡ Does e
+  pub does : landed Forward (placed 0 0 0 s) (attempt [] Forward (op_at s) (placed 0 0 0 s)) ≡ Ok e
   pub code : is_code s.at (pc s) ≡ true
   pub runs : finishes s.memory (pc s) ≡ false
   pub next : to Forward (performed e (placed 0 0 0 s)) ≡ z
@@ -56,8 +56,8 @@ Says s joins = AtFiq s
 module _ (s : View) (code : is_code s.at (pc s) ≡ true) (runs : finishes s.memory (pc s) ≡ false) where
   by_effect : kind_of (op_at s) ≡ Plain → (x : Attempt)
       → landed Forward (placed 0 0 0 s) (attempt [] Forward (op_at s) (placed 0 0 0 s)) ≡ x → Fine x → Says s (led_to (placed 0 0 0 s) x)
-  by_effect p (Refused n) d f = f
-  by_effect p (Does e) d f = record { plain = p; e = e; does = d; code = code; runs = runs; next = refl }
+  by_effect p (Err n) d f = f
+  by_effect p (Ok e) d f = record { plain = p; e = e; does = d; code = code; runs = runs; next = refl }
 
   by_qif : (a : ℕ) → op_at s ≡ Qif a → (x y : Bool) → is_register s a ≡ x → is_before_start s ≡ y → Says s (refuse (not x) (halts 13) (refuse y (halts 18) forks))
   unfolding refuse

@@ -1,7 +1,9 @@
 -- One word: what its look is, and what the machine's own turn makes of it. Assumes nothing.
 use mathlib.Core.Path.{◌≡◌, refl, sym, ap, ap₂, ◌∙◌, subst}
-use mathlib.Core.Bool.{Bool, true, false, false≢true}
+use mathlib.Core.Bool.{Bool, true, false}
 use mathlib.Core.List.{List, [], ◌++◌, append-nil}
+use Rattle.std.proofs.Common.{Result}
+use Rattle.word.specs.declared.refusals.Refusal.{Refusal}
 use Prim.Native.Nat.{ℕ, ◌<◌, ◌≤◌}
 use native.Mathlib.Omega.{arith}
 use lib.ListN.{length, get_or, take, drop, drop_of_length-le}
@@ -13,17 +15,18 @@ use Rattle.qins.specs.Op.Op.{None, Start}
 use Rattle.qins.specs.Decode.{decode, finish_word, is_instruction}
 use Rattle.step.specs.declared.Direction.TheVariants.{Forward}
 use Rattle.step.specs.declared.Effect.{Effect}
-use Rattle.step.specs.declared.Attempt.{Attempt}
-use Rattle.step.specs.declared.Attempt.TheVariants.{Refused, Does}
+use Rattle.step.specs.Step.{Attempt}
+use Rattle.std.specs.Prelude.{Err, Ok}
 use Rattle.step.specs.declared.Status.{Status}
 use Rattle.step.specs.View.{View, sized}
 use Rattle.step.specs.Sizes.{in_range, bad_sizes}
 use Rattle.word.specs.Refusal.{refuse}
-use Rattle.step.specs.Step.{attempt, performed, number}
+use Rattle.step.specs.Step.{attempt, performed}
+use Rattle.word.specs.Refusal.{number_of, number}
+use Rattle.maker.proofs.Refusals.{some_number}
 use Rattle.step.proofs.Nodes.{KeepsNode}
 use Rattle.machine.specs.Turn.{pc, from, to, landed, judged, executed, planned, turned}
 use Rattle.machine.specs.declared.Record.{Record}
-use Rattle.machine.specs.declared.Turned.{Turned}
 use Rattle.machine.specs.Machine.{new_record, Machine, machine_of}
 use Rattle.machine.specs.Calls.{refusal, next, TurnPromise}
 use Rattle.maker.specs.declared.Kind.{Kind}
@@ -31,7 +34,6 @@ use Rattle.maker.specs.declared.Kind.TheVariants.{Plain, Opens, Closes}
 use Rattle.maker.specs.declared.Seen.{Seen}
 use Rattle.maker.specs.Walkable.{Look}
 use Rattle.maker.specs.Walkable.Look.{halts, last, goes, forks, joins}
-use Rattle.maker.specs.Claims.{is_one_of, walk_refusals}
 use Rattle.maker.specs.Idle.{is_gate, idle_op, kind_of, is_before_start, led_to, plain, look_by, look_at}
 use Rattle.maker.specs.Parts.{view_at, moved_on, Simple, Looks, Sized}
 use Rattle.maker.proofs.Effects.{kind_of_shape, Fine, plain_effect, landed_effect}
@@ -40,6 +42,10 @@ use Rattle.maker.proofs.Registers.{qif_register, fiq_register}
 
 pub whole : (m : ℕ) (z : List ℕ) → length z ≡ m → take m z ≡ z
 whole m z e = ap (λ (i : ℕ). take i z) (sym e) ∙ take-length z
+
+-- an answer to one look is one to another that is the same
+pub seen_as : (k m : ℕ) (z z' : List ℕ) (r : Result Seen Refusal) {o p : Look View} → o ≡ p → Looks k m z r o z' → Looks k m z r p z'
+seen_as k m z z' r e h = subst (λ (y : Look View). Looks k m z r y z') e h
 
 -- ---- a word that idles
 
@@ -104,10 +110,10 @@ module _ (k m : ℕ) (l z : List ℕ) (fit : Sized k m (length z)) (simple : Sim
       (q ∙ ap (λ (y : Attempt). (turned Forward y s).regs) plan_is) (r ∙ ap (λ (y : Attempt). (turned Forward y s).memory) plan_is)
     where
       go : (y : Attempt) → x ≡ y → Fine y → n ≡ number x → l' ≡ (turned Forward x s).regs → z' ≡ (turned Forward x s).memory → Turns n l' z'
-      go (Refused i) e f p q r =
-          let n_is : n ≡ i = p ∙ ap number e in
-          record { refused = λ c. ap (led_to s) e ∙ ap halts (sym n_is); made_is = λ c. absurd (false≢true (subst (λ (j : ℕ). is_one_of j walk_refusals ≡ true) (sym n_is ∙ c) f)) }
-      go (Does d) e f p q r =
+      go (Err i) e f p q r =
+          let n_is : n ≡ number_of i = p ∙ ap number e in
+          record { refused = λ c. ap (led_to s) e ∙ ap halts (sym n_is); made_is = λ c. absurd (some_number i (sym n_is ∙ c)) }
+      go (Ok d) e f p q r =
           record {
             refused = λ c. absurd (c (p ∙ ap number e));
             made_is = λ c.
@@ -123,24 +129,19 @@ module _ (k m : ℕ) (l z : List ℕ) (fit : Sized k m (length z)) (simple : Sim
       × (l' ≡ (turned Forward (planned [] Forward false (view_at k m l y)) (view_at k m l y)).regs)
       × (z' ≡ (turned Forward (planned [] Forward false (view_at k m l y)) (view_at k m l y)).memory ++ drop m z)
 
-  pub turns : (r : Record) (t : List ℕ) (a : Turned) (z' : List ℕ) → r ≡ new_record (sized k m 0) l → TurnPromise Forward (machine_of r z t) a.refusal (machine_of a.state z' t)
-      → Turns a.refusal a.state.regs z'
-  turns r t a z' e f =
+  pub turns : (r : Record) (t : List ℕ) (n : ℕ) (a : Record) (z' : List ℕ) → r ≡ new_record (sized k m 0) l → TurnPromise Forward (machine_of r z t) n (machine_of a z' t) → Turns n a.regs z'
+  turns r t n a z' e f =
       let r₀ : Record = new_record (sized k m 0) l in
-      let n : a.refusal ≡ refusal Forward (machine_of r₀ z t) = f.refusal ∙ ap (λ (r : Record). refusal Forward (machine_of r z t)) e in
-      let p : machine_of a.state z' t ≡ next Forward (machine_of r₀ z t) = f.left ∙ ap (λ (r : Record). next Forward (machine_of r z t)) e in
-      let g : Told (take m z) a.refusal a.state.regs z' = (n, ap (λ (y : Machine). y.state.regs) p, ap (λ (y : Machine). y.memory) p) in
-      let h : Told z a.refusal a.state.regs z' = subst (λ (y : List ℕ). Told y a.refusal a.state.regs z') (whole m z fit.3) g in
-      turn_is a.refusal a.state.regs z' h.0 h.1
+      let n_is : n ≡ refusal Forward (machine_of r₀ z t) = f.refusal ∙ ap (λ (r : Record). refusal Forward (machine_of r z t)) e in
+      let p : machine_of a z' t ≡ next Forward (machine_of r₀ z t) = f.left ∙ ap (λ (r : Record). next Forward (machine_of r z t)) e in
+      let g : Told (take m z) n a.regs z' = (n_is, ap (λ (y : Machine). y.state.regs) p, ap (λ (y : Machine). y.memory) p) in
+      let h : Told z n a.regs z' = subst (λ (y : List ℕ). Told y n a.regs z') (whole m z fit.3) g in
+      turn_is n a.regs z' h.0 h.1
       (h.2
       ∙ (ap (λ (y : List ℕ). (turned Forward (planned [] Forward false s) s).memory ++ y) (drop_of_length-le z {i = m} (omega (arith, fit.3)))
       ∙ append-nil (turned Forward (planned [] Forward false s) s).memory))
 
 -- ---- the look at a word
-
-pub shift : (k m : ℕ) (l z : List ℕ) (r : Seen) (o : Look View) (l' z' : List ℕ) → look_at (view_at k m l z) ≡ o → Looks k m z r o l' z'
-    → Looks k m z r (look_at (view_at k m l z)) l' z'
-shift k m l z r o l' z' e h = subst (λ (y : Look View). Looks k m z r y l' z') (sym e) h
 
 module _ (k m : ℕ) (l z : List ℕ) where
   abbrev word : ℕ
@@ -173,7 +174,3 @@ module _ (k m : ℕ) (l z : List ℕ) where
 
     pub look_plain : kind_of (idle_op word) ≡ Plain → look_at (view_at k m l z) ≡ plain (idle_op word) (view_at k m l z)
     look_plain e = by_kind Plain e
-
-pub as_op : (k m : ℕ) (l z : List ℕ) (r : Seen) (o p : Op) (l' z' : List ℕ) → o ≡ p → Looks k m z r (plain o (view_at k m l z)) l' z'
-    → Looks k m z r (plain p (view_at k m l z)) l' z'
-as_op k m l z r o p l' z' e h = subst (λ (q : Op). Looks k m z r (plain q (view_at k m l z)) l' z') e h

@@ -10,8 +10,8 @@ use Rattle.qins.specs.Op.{Op}
 use Rattle.step.specs.declared.Direction.TheVariants.{Forward}
 use Rattle.step.specs.declared.Effect.{Effect}
 use Rattle.step.specs.declared.Effect.TheVariants.{SetNode}
-use Rattle.step.specs.declared.Attempt.{Attempt}
-use Rattle.step.specs.declared.Attempt.TheVariants.{Refused, Does}
+use Rattle.step.specs.Step.{Attempt}
+use Rattle.std.specs.Prelude.{Err, Ok}
 use Rattle.step.specs.declared.Status.{Status}
 use Rattle.step.specs.View.{View, reg, with_reg, placed}
 use Rattle.step.specs.Table.{fc, lc, cf, cl, nx, pr, w, link, paired}
@@ -30,6 +30,7 @@ use Rattle.maker.specs.Follow.Went.{went}
 use Rattle.maker.proofs.Effects.{kind_of_shape, Fine, plain_effect, landed_effect}
 use Rattle.maker.proofs.Looked.{at_qif, at_fiq, at_plain}
 use Rattle.maker.proofs.Lawful.{pc_stays, br_stays, reads, op_stays}
+use Rattle.word.specs.declared.refusals.Refusal.TheVariants.{Landing}
 
 -- ---- a turn that is not refused for sizes, pc or finish
 
@@ -46,7 +47,7 @@ module _ (t : List ℕ) (s : View) (sized : bad_sizes s.at s.memory t ≡ false)
       ap (λ (z : View). judged t Forward false (pc s) z (landed Forward z (idled t z))) (from_is s) ∙ judged_is (pc s) (landed Forward s (idled t s))
 
   -- the turn, where the word's own attempt lands
-  turns : (e : Effect) (f : View → Walker) → landed Forward s (idled t s) ≡ Does e → turn_then t s f ≡ went (f (to Forward (performed e s)))
+  turns : (e : Effect) (f : View → Walker) → landed Forward s (idled t s) ≡ Ok e → turn_then t s f ≡ went (f (to Forward (performed e s)))
   turns e f h =
       ap (λ (x : Attempt). by_turn x s f) (planned_is ∙ h) ∙ ap (λ (z : View). went (f (to Forward (performed e z)))) (from_is s)
 
@@ -55,12 +56,12 @@ module _ (t : List ℕ) (s : View) (sized : bad_sizes s.at s.memory t ≡ false)
 -- placed at a node, an attempt that leaves it lands as it does without one
 landed_placed : (N v : ℕ) (s : View) (x : Attempt) → Fine x → landed Forward (placed N v 0 s) x ≡ landed Forward (placed 0 0 0 s) x
 unfolding landed
-landed_placed N v s (Refused n) h = refl
-landed_placed N v s (Does e) h = ap lands (h (placed N v 0 s).at) ∙ sym (ap lands (h (placed 0 0 0 s).at))
+landed_placed N v s (Err n) h = refl
+landed_placed N v s (Ok e) h = ap lands (h (placed N v 0 s).at) ∙ sym (ap lands (h (placed 0 0 0 s).at))
   where
     lands : Status → Attempt
     lands at =
-        refuse (is_ready at && starts s.at s.memory (new_pc Forward (record { at = at; regs = (performed e s).regs; memory = s.memory }))) (Refused 18) (Does e)
+        refuse (is_ready at && starts s.at s.memory (new_pc Forward (record { at = at; regs = (performed e s).regs; memory = s.memory }))) (Err Landing) (Ok e)
 
 to_placed : (N v : ℕ) (s : View) (e : Effect) → KeepsNode e → to Forward (performed e (placed N v 0 s)) ≡ placed N v 0 (to Forward (performed e (placed 0 0 0 s)))
 to_placed N v s e h = ap moved (h (placed N v 0 s).at) ∙ sym (ap (λ (at : Status). placed N v 0 (moved at)) (h (placed 0 0 0 s).at))
@@ -82,18 +83,18 @@ module _ (t : List ℕ) (N : ℕ) where
   goes_on s z v x l sized e =
       let q = at_plain s z e in
       let there : idled t (placed N v 0 s) ≡ attempt [] Forward (op_at s) (placed 0 0 0 s) = attempt_placed t [] Forward N 0 v 0 0 s (op_at s) (kind_of_shape (op_at s) Plain q.plain) in
-      let lands : landed Forward (placed N v 0 s) (idled t (placed N v 0 s)) ≡ Does q.e = ap (landed Forward (placed N v 0 s)) there ∙ (landed_placed N v s (attempt [] Forward (op_at s) (placed 0 0 0 s)) (plain_effect (op_at s) q.plain s) ∙ q.does) in
+      let lands : landed Forward (placed N v 0 s) (idled t (placed N v 0 s)) ≡ Ok q.e = ap (landed Forward (placed N v 0 s)) there ∙ (landed_placed N v s (attempt [] Forward (op_at s) (placed 0 0 0 s)) (plain_effect (op_at s) q.plain s) ∙ q.does) in
       ap (λ (k : Kind). cycle_by t x k (placed N v 0 s) l) q.plain
       ∙ (turns t (placed N v 0 s) sized q.code q.runs q.e (λ y. walker y l) lands
       ∙ ap (λ (y : View). went (walker y l)) (to_placed N v s q.e (goes_plain s z e) ∙ ap (placed N v 0) q.next))
 
 -- ---- an effect that sets node and wait count
 
-set_lands : (s : View) (u j : ℕ) → is_before_start s ≡ false → landed Forward s (Does (SetNode u j)) ≡ Does (SetNode u j)
+set_lands : (s : View) (u j : ℕ) → is_before_start s ≡ false → landed Forward s (Ok (SetNode u j)) ≡ Ok (SetNode u j)
 unfolding landed refuse
 set_lands s u j h = go (eqb j 0)
   where
-    go : (b : Bool) → refuse (b && starts s.at s.memory (pick b (shifted Forward (pc s) (stride (br s))) (pc s))) (Refused 18) (Does (SetNode u j)) ≡ Does (SetNode u j)
+    go : (b : Bool) → refuse (b && starts s.at s.memory (pick b (shifted Forward (pc s) (stride (br s))) (pc s))) (Err Landing) (Ok (SetNode u j)) ≡ Ok (SetNode u j)
     go true = rw h
     go false = refl
 
@@ -115,7 +116,7 @@ module _ (t : List ℕ) (N : ℕ) where
       let q = at_qif s e in
       let u = link t N v (fc x) in
       let s' : View = with_reg s q.a x in
-      let does : idled t (placed N v 0 s') ≡ Does (SetNode u (link t N u w)) = ap (λ (o : Op). attempt t Forward o (placed N v 0 s')) (op_stays s q.a x q.named ∙ q.op) ∙ attempt_enters t N s' v q.a x b (reads s q.a x q.named) p in
+      let does : idled t (placed N v 0 s') ≡ Ok (SetNode u (link t N u w)) = ap (λ (o : Op). attempt t Forward o (placed N v 0 s')) (op_stays s q.a x q.named ∙ q.op) ∙ attempt_enters t N s' v q.a x b (reads s q.a x q.named) p in
       let free : is_before_start (placed N v 0 s') ≡ false = ap₂ (λ (i j : ℕ). starts s.at s.memory (shifted Forward i (stride j))) (pc_stays s q.a x q.named) (br_stays s q.a x q.named) ∙ q.free in
       let here : coin_at s ≡ q.a = ap (λ (o : Op). coin_of (kind_of o)) q.op in
       ap (λ (o : Op). cycle_by t x (kind_of o) (placed N v 0 s) l) q.op
@@ -131,7 +132,7 @@ module _ (t : List ℕ) (N : ℕ) where
   qif_waits s v j x l sized z b e p h =
       let q = at_qif s e in
       let here : coin_at s ≡ q.a = ap (λ (o : Op). coin_of (kind_of o)) q.op in
-      let does : idled t (placed N v j s) ≡ Does (SetNode v (j - 1)) = ap (λ (o : Op). attempt t Forward o (placed N v j s)) q.op ∙ attempt_waits t N s v j q.a (reg s (coin_at s)) z b (ap (reg s) (sym here)) p h in
+      let does : idled t (placed N v j s) ≡ Ok (SetNode v (j - 1)) = ap (λ (o : Op). attempt t Forward o (placed N v j s)) q.op ∙ attempt_waits t N s v j q.a (reg s (coin_at s)) z b (ap (reg s) (sym here)) p h in
       ap (λ (o : Op). cycle_by t x (kind_of o) (placed N v j s) l) q.op
       ∙ (ap (λ (y : Bool). pick y (turn_then t (with_reg (placed N v j s) q.a x) (λ z. walker z (saved s q.a ∷ l))) (turn_then t (placed N v j s) (λ z. walker z l))) z
       ∙ (turns t (placed N v j s) sized q.code q.runs (SetNode v (j - 1)) (λ z. walker z l)
@@ -148,7 +149,7 @@ module _ (t : List ℕ) (N : ℕ) where
       let m = link t N (link t N v cl) nx in
       let back : View → Walker = λ z. walker (with_reg z (coin_at s₀) (reg s₀ (coin_at s₀))) l in
       let here : coin_at s ≡ q.a = ap (λ (o : Op). coin_of (kind_of o)) q.op in
-      let does : idled t (placed N v 0 s) ≡ Does (SetNode m 0) = ap (λ (o : Op). attempt t Forward o (placed N v 0 s)) q.op ∙ attempt_leaves t N s v q.a (reg s (coin_at s)) b (ap (reg s) (sym here)) p in
+      let does : idled t (placed N v 0 s) ≡ Ok (SetNode m 0) = ap (λ (o : Op). attempt t Forward o (placed N v 0 s)) q.op ∙ attempt_leaves t N s v q.a (reg s (coin_at s)) b (ap (reg s) (sym here)) p in
       ap (λ (o : Op). cycle_by t x (kind_of o) (placed N v 0 s) (saved s₀ (coin_at s₀) ∷ l)) q.op
       ∙ (turns t (placed N v 0 s) sized q.code q.runs (SetNode m 0) back
       (ap (λ (y : Attempt). landed Forward (placed N v 0 s) y) does ∙ set_lands (placed N v 0 s) m 0 free)

@@ -3,7 +3,7 @@ use Rattle.std.specs.Prelude.{ℕ, ◌+◌, ◌<◌, ◌≤◌, ◌≡◌, Bool,
 use Rattle.qins.specs.Op.Op.{Start}
 use Rattle.qins.specs.Decode.{is_instruction}
 use Rattle.step.specs.declared.Direction.TheVariants.{Forward}
-use Rattle.step.specs.declared.Attempt.TheVariants.{Refused}
+use Rattle.std.specs.Prelude.{Err}
 use Rattle.step.specs.Table.{table_words}
 use Rattle.step.specs.Sizes.{bad_sizes}
 use Rattle.step.specs.View.{View, placed}
@@ -20,6 +20,7 @@ use Rattle.maker.specs.Idle.{is_gate, machine}
 use Rattle.maker.specs.Follow.{idled, planned_idle, walker, follows}
 use Rattle.maker.specs.Follow.Went.{went}
 use Rattle.maker.specs.Make.{most_words, MakePromise}
+use Rattle.word.specs.declared.refusals.Refusal.TheVariants.{End}
 
 -- ---- an accepted call
 
@@ -28,7 +29,7 @@ use Rattle.maker.specs.Make.{most_words, MakePromise}
 pub record EveryChoice (n : ℕ) (y : Machine) : Type 0 where
   pub end : View
   pub walks : (c : ℕ → ℕ) → ((i : ℕ) → c i ≤ 1) → follows (state_of y).links c n 0 (walker (view_of y) []) ≡ went (walker end [])
-  pub finished : planned_idle (state_of y).links end ≡ Refused 12
+  pub finished : planned_idle (state_of y).links end ≡ Err End
 
 pub record OnMade : Type 0 where
   pub choices : {x y : Machine} {limit n c : ℕ} {scratch scratch' : List ℕ} → MakePromise x limit scratch n c y scratch' → n ≡ 0 → EveryChoice c y

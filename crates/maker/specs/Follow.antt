@@ -2,9 +2,10 @@
 -- at the qif and restored at its fiq (document 02, #107).
 use Rattle.std.specs.Prelude.{ℕ, zero, suc, false, List, [], ◌∷◌, eqb}
 use Rattle.word.specs.Word.{pick}
+use Rattle.word.specs.Refusal.{number_of}
 use Rattle.step.specs.declared.Direction.TheVariants.{Forward}
-use Rattle.step.specs.declared.Attempt.{Attempt}
-use Rattle.step.specs.declared.Attempt.TheVariants.{Refused, Does}
+use Rattle.step.specs.Step.{Attempt}
+use Rattle.std.specs.Prelude.{Err, Ok}
 use Rattle.step.specs.View.{View, reg, with_reg}
 use Rattle.step.specs.Step.{attempt}
 use Rattle.machine.specs.Turn.{planned_by, turned}
@@ -41,8 +42,8 @@ walker s l = record { view = s; begun = l }
 
 -- a turn from s, refused or made, and what is then done with the view after it
 abbrev pub by_turn : Attempt → View → (View → Walker) → Went
-by_turn (Refused n) s f = halted n
-by_turn (Does e) s f = went (f (turned Forward (Does e) s))
+by_turn (Err e) s f = halted (number_of e)
+by_turn (Ok e) s f = went (f (turned Forward (Ok e) s))
 
 abbrev pub turn_then : List ℕ → View → (View → Walker) → Went
 turn_then t s f = by_turn (planned_idle t s) s f

@@ -1,13 +1,13 @@
 -- The machine as the maker walks it: uni and unib idle, node, wait count and position left aside (document 02, #107).
 use Rattle.std.specs.Prelude.{ℕ, Bool, not, ◌&&◌, ◌||◌, [], eqb, ltb, length, get_or}
 use Rattle.word.specs.Word.{pick}
-use Rattle.word.specs.Refusal.{refuse}
+use Rattle.word.specs.Refusal.{refuse, number_of}
 use Rattle.qins.specs.Op.{Op}
 use Rattle.qins.specs.Op.Op.{None, Start}
 use Rattle.qins.specs.Decode.{opcode, decode, is_instruction}
 use Rattle.step.specs.declared.Direction.TheVariants.{Forward}
-use Rattle.step.specs.declared.Attempt.{Attempt}
-use Rattle.step.specs.declared.Attempt.TheVariants.{Refused, Does}
+use Rattle.step.specs.Step.{Attempt}
+use Rattle.std.specs.Prelude.{Err, Ok}
 use Rattle.step.specs.View.{View, reg, with_reg, placed}
 use Rattle.step.specs.Same.{same_view}
 use Rattle.step.specs.Nodes.{by_node}
@@ -51,8 +51,8 @@ is_before_start s = starts s.at s.memory (shifted Forward (pc s) (stride (br s))
 
 -- where an attempt leads
 abbrev pub led_to : View → Attempt → Look View
-led_to s (Refused n) = halts n
-led_to s (Does e) = goes (to Forward (performed e s))
+led_to s (Err e) = halts (number_of e)
+led_to s (Ok e) = goes (to Forward (performed e s))
 
 -- the machine's own attempt of a word that is no qif or fiq, without a table, with 18 after it
 abbrev pub plain : Op → View → Look View

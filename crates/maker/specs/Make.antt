@@ -1,13 +1,15 @@
 -- The call (document 02, #107): refusals in order, the answer, and what it leaves of the lent words.
-use Rattle.std.specs.Prelude.{ℕ, ◌+◌, ◌*◌, ◌≡◌, Bool, false, not, ◌&&◌, List, ◌++◌, eqb, leb, length, get_or, drop, replicate}
+use Rattle.std.specs.Prelude.{ℕ, ◌+◌, ◌*◌, ◌≡◌, Bool, false, not, ◌&&◌, List, ◌++◌, eqb, leb, length, get_or, drop, replicate, Result, Ok, Err}
 use Rattle.word.specs.Word.{pick}
 use Rattle.word.specs.Refusal.{refuse}
+use Rattle.word.specs.declared.refusals.Refusal.{Refusal}
 use Rattle.step.specs.Table.{table_words}
 use Rattle.step.specs.Sizes.{max_nodes}
 use Rattle.step.specs.View.{View, with_node, with_nodes}
 use Rattle.machine.specs.Turn.{starts}
 use Rattle.machine.specs.declared.Record.{Record}
 use Rattle.machine.specs.Machine.{status_of, with_status, Machine, state_of, wrong_sizes}
+use Rattle.maker.specs.declared.Finished.{Finished}
 use Rattle.maker.specs.declared.Made.{Made}
 use Rattle.maker.specs.Walk.{size, cycles, drawn}
 use Rattle.maker.specs.Making.{Outcome, branch_at}
@@ -53,6 +55,15 @@ outcome_of x limit = walk_over x.state limit (state_of x).words
 
 abbrev pub made_as : ℕ → ℕ → Record → Made
 made_as n c r = record { refusal = n; cycles = c; state = r }
+
+-- of an answer, the cycles and the record that is left: none, and the given record r, where it is refused
+abbrev pub cycles_in : Result Finished Refusal → ℕ
+cycles_in (Ok d) = d.cycles
+cycles_in (Err e) = 0
+
+abbrev pub state_in : Record → Result Finished Refusal → Record
+state_in r (Ok d) = d.state
+state_in r (Err e) = r
 
 -- r at node 1 of n
 abbrev pub with_table : Record → ℕ → Record

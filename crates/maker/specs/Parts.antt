@@ -1,15 +1,15 @@
 -- What the parts of the maker promise (src/look.rt, src/walk.rt): of registers, memory and table that they hold or are lent.
-use Rattle.std.specs.Prelude.{ℕ, zero, suc, ◌+◌, ◌-◌, ◌≤◌, ◌<◌, ◌≡◌, Bool, false, not, ◌&&◌, List, eqb, ltb, leb, get_or, set}
-use Rattle.word.specs.Refusal.{refuse}
+use Rattle.std.specs.Prelude.{ℕ, zero, suc, ◌+◌, ◌-◌, ◌≤◌, ◌<◌, ◌≡◌, Bool, false, not, ◌&&◌, List, eqb, ltb, leb, get_or, set, Result, Ok, Err}
+use Rattle.word.specs.Refusal.{refuse, number_of}
+use Rattle.word.specs.declared.refusals.Refusal.{Refusal}
 use Rattle.qins.specs.Decode.{decode}
 use Rattle.step.specs.declared.Direction.TheVariants.{Forward}
 use Rattle.step.specs.View.{View, sized}
 use Rattle.step.specs.Step.{shifted}
 use Rattle.machine.specs.Turn.{stride, finishes}
-use Rattle.machine.specs.Machine.{zeros}
 use Rattle.maker.specs.declared.Kind.TheVariants.{Plain}
 use Rattle.maker.specs.declared.Seen.{Seen}
-use Rattle.maker.specs.declared.Seen.TheVariants.{Halts, Last, Goes, Forks as AtFork, Joins}
+use Rattle.maker.specs.declared.Seen.TheVariants.{Last, Goes, Forks as AtFork, Joins}
 use Rattle.maker.specs.declared.Walked.{Walked}
 use Rattle.maker.specs.Walk.{Walk, size, used, cycles, ending, drawn, fork_size, fork_used, fork_cycles, fork_drawn}
 use Rattle.maker.specs.Walkable.{Look}
@@ -34,14 +34,14 @@ entered l a x = moved_on (set l a x)
 abbrev pub left : List ℕ → ℕ → ℕ → List ℕ
 left l a x = set (moved_on l) a x
 
--- ---- one word: what stands there, with the turn made where it leads on; registers l and memory z at exit, memory m at entry
+-- ---- one word: what stands there, with the turn made where it leads on; memory z at exit, m at entry
 
-abbrev pub Looks : ℕ → ℕ → List ℕ → Seen → Look View → List ℕ → List ℕ → Type 0
-Looks k w m (Halts n) o l z = (o ≡ halts n) × ¬ (n ≡ 0)
-Looks k w m Last o l z = (o ≡ last) × (z ≡ m)
-Looks k w m Goes o l z = o ≡ goes (view_at k w l z)
-Looks k w m AtFork o l z = (o ≡ forks) × (z ≡ m)
-Looks k w m Joins o l z = (o ≡ joins) × (z ≡ m)
+abbrev pub Looks : ℕ → ℕ → List ℕ → Result Seen Refusal → Look View → List ℕ → Type 0
+Looks k w m (Err e) o z = o ≡ halts (number_of e)
+Looks k w m (Ok Last) o z = (o ≡ last) × (z ≡ m)
+Looks k w m (Ok (Goes l)) o z = o ≡ goes (view_at k w l z)
+Looks k w m (Ok AtFork) o z = (o ≡ forks) × (z ≡ m)
+Looks k w m (Ok Joins) o z = (o ≡ joins) × (z ≡ m)
 
 -- the register that the qif or fiq at pc names
 abbrev pub coin_in : List ℕ → List ℕ → ℕ
@@ -62,25 +62,26 @@ Room (suc nest) m l = (m ≤ l) × Room nest m (l - m)
 
 -- ---- answers
 
-abbrev pub refused_by : ℕ → Walked
-refused_by k = record { refusal = k; regs = zeros.regs; used = 0; cycles = 0; nodes = 0; node = 0 }
-
 abbrev pub walked_at : List ℕ → ℕ → ℕ → ℕ → ℕ → Walked
-walked_at s u c n v = record { refusal = 0; regs = s; used = u; cycles = c; nodes = n; node = v }
+walked_at s u c n v = record { regs = s; used = u; cycles = c; nodes = n; node = v }
 
 -- after the walk p from node v, with n nodes made and u cycles used before it
 abbrev pub walked_of : ℕ → ℕ → ℕ → Walk → List ℕ → Walked
 walked_of v n u p s = walked_at s (u + used p) (cycles p) (n + size p) (ending p v n)
 
--- of a branch: r, the table l and the memory z at exit; k and w are K and M; table and memory are free after a refusal
-abbrev pub Shown : ℕ → ℕ → Outcome View → ℕ → ℕ → ℕ → List ℕ → Walked → List ℕ → List ℕ → Type 0
-Shown k w (refused i) v n u t r l z = (r ≡ refused_by i) × ¬ (i ≡ 0)
-Shown k w (ended p x) v n u t r l z = (r ≡ walked_of v n u p r.regs) × (l ≡ drawn p v n t) × (x ≡ view_at k w r.regs z)
+-- of a branch: its answer, the table l and the memory z at exit; k and w are K and M; table and memory are free after a refusal
+abbrev pub Shown : ℕ → ℕ → Outcome View → ℕ → ℕ → ℕ → List ℕ → Result Walked Refusal → List ℕ → List ℕ → Type 0
+Shown k w (refused i) v n u t (Err e) l z = i ≡ number_of e
+Shown k w (refused i) v n u t (Ok r) l z = ⊥
+Shown k w (ended p x) v n u t (Err e) l z = ⊥
+Shown k w (ended p x) v n u t (Ok r) l z = (r ≡ walked_of v n u p r.regs) × (l ≡ drawn p v n t) × (x ≡ view_at k w r.regs z)
 
 -- of a qif
-abbrev pub ShownFork : ℕ → ℕ → Forks View → ℕ → ℕ → ℕ → List ℕ → Walked → List ℕ → List ℕ → Type 0
-ShownFork k w (failed i) v n u t r l z = (r ≡ refused_by i) × ¬ (i ≡ 0)
-ShownFork k w (forked a b x) v n u t r l z =
+abbrev pub ShownFork : ℕ → ℕ → Forks View → ℕ → ℕ → ℕ → List ℕ → Result Walked Refusal → List ℕ → List ℕ → Type 0
+ShownFork k w (failed i) v n u t (Err e) l z = i ≡ number_of e
+ShownFork k w (failed i) v n u t (Ok r) l z = ⊥
+ShownFork k w (forked a b x) v n u t (Err e) l z = ⊥
+ShownFork k w (forked a b x) v n u t (Ok r) l z =
     (r ≡ walked_at r.regs (u + fork_used a b) (fork_cycles a b) (n + fork_size a b) (n + fork_size a b)) × (l ≡ fork_drawn v n a b t) × (x ≡ view_at k w r.regs z)
 
 -- ---- the tests of a qif whose register is a, of registers and memory as the code holds them
@@ -95,20 +96,11 @@ qif_refusal_of limit n u =
     (refuse (ltb 509 n) 23
     0)
 
--- at the fiq of branch 0
-unfoldable pub first_fiq_refusal_of : ℕ → ℕ → ℕ → ℕ → ℕ → List ℕ → List ℕ → ℕ
-first_fiq_refusal_of k m limit a u l z =
+-- at the fiq of branch x; full: no node may be made
+unfoldable pub fiq_refusal_of : ℕ → ℕ → ℕ → ℕ → ℕ → Bool → ℕ → List ℕ → List ℕ → ℕ
+fiq_refusal_of k m limit a x full u l z =
     refuse (is_before_start (view_at k m l z)) 18
     (refuse (leb limit u) 23
-    (refuse (not (held_of a 0 l z)) 24
-    0))
-
--- at the fiq of branch 1; e: registers and memory are the same
-unfoldable pub second_fiq_refusal_of : ℕ → ℕ → ℕ → ℕ → ℕ → ℕ → List ℕ → List ℕ → Bool → ℕ
-second_fiq_refusal_of k m limit a n u l z e =
-    refuse (is_before_start (view_at k m l z)) 18
-    (refuse (leb limit u) 23
-    (refuse (ltb 510 n) 23
-    (refuse (not (held_of a 1 l z)) 24
-    (refuse (not e) 24
-    0))))
+    (refuse full 23
+    (refuse (not (held_of a x l z)) 24
+    0)))

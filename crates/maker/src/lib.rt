@@ -1,18 +1,19 @@
 // The qif table of a program, made by walking it through both branches of every qif, uni and unib idle.
 #![tactic(auto)]
 
-ghost use Rattle.std.specs.Prelude.{◌≡◌, false, ◌*◌, ◌≤◌, length};
+ghost use Rattle.std.specs.Prelude.{◌≡◌, ◌*◌, ◌<◌, ◌≤◌, length};
+ghost use Rattle.word.specs.Refusal.{number};
 ghost use Rattle.maker.specs.Parts.{Sized};
 ghost use Rattle.machine.specs.Lent.{at_entry, at_exit};
-ghost use Rattle.maker.specs.Make.{most_words, scratch_words, walk_over, can_begin, refusal_of, made_as, with_table, answer_of, drawn_by, MakePromise};
+ghost use Rattle.maker.specs.Make.{most_words, scratch_words, walk_over, can_begin, refusal_of, made_as, with_table, answer_of, drawn_by, cycles_in, state_in, MakePromise};
 
-mod copy;
 mod draw;
 mod look;
 mod walk;
 
 use machine::Record;
-use step::lent::look as word_of;
+use step::lent::{front, look};
+use word::refusals::{Refusal, number_in};
 
 // What a word is to a walk: a qif or a fiq, with the register of its coin, or any other.
 #[derive(Clone, Copy)]
@@ -22,28 +23,19 @@ enum Kind {
     Closes(usize),
 }
 
-// What stands at pc: a refusal, finish, a word that leads on, a qif, a fiq.
+// What stands at pc: finish, a word that leads on, with the registers after it, a qif, a fiq.
 #[derive(Clone, Copy)]
 enum Seen {
-    Halts(u32),
     Last,
-    Goes,
+    Goes([u32; 16]),
     Forks,
     Joins,
 }
 
-// What was seen, and the registers after it where it leads on.
-#[derive(Clone, Copy)]
-struct Advanced {
-    seen: Seen,
-    regs: [u32; 16],
-}
-
-// Where a walk is: its refusal, the registers, the cycles used by all of it, those of this branch with the
-// waits, the nodes made and the present one.
+// Where a walk is: the registers, the cycles used by all of it, those of this branch with the waits, the nodes
+// made and the present one.
 #[derive(Clone, Copy)]
 struct Walked {
-    refusal: u32,
     regs: [u32; 16],
     used: u32,
     cycles: u32,
@@ -51,7 +43,23 @@ struct Walked {
     node: u32,
 }
 
-// What the call answers: the refusal, the cycles of a walk over the table, and the record at its node 1.
+// What a walk stays in: K and M of its program, and the cycles allowed.
+#[derive(Clone, Copy)]
+struct Bounds {
+    k: u32,
+    m: u32,
+    limit: u32,
+    ghost in_range: { (0 < k) × (k ≤ m) × (m ≤ 8192) },
+}
+
+// What is made: the cycles of a walk over the table, and the record at its node 1.
+#[derive(Clone, Copy)]
+pub struct Finished {
+    pub cycles: u32,
+    pub state: Record,
+}
+
+// The same for C: the refusal, 0 for none, with no cycles and the given record beside it.
 #[repr(C)]
 #[derive(Clone, Copy)]
 pub struct Made {
@@ -60,17 +68,19 @@ pub struct Made {
     pub state: Record,
 }
 
-// The words of a table of 511 nodes.
-const TABLE: usize = Record::NODE_WORDS * 511;
-
 impl Made {
-    fn refused(n: u32, r: Record) -> Made
-        ensures { result ≡ made_as n 0 r }
+    // The answer to a call with the record r.
+    pub fn of(r: Record, answer: Result<Finished, Refusal>) -> Made
+        ensures { result ≡ made_as (number answer) (cycles_in answer) (state_in r answer) }
     {
-        Made {
-            refusal: n,
+        let end = answer.unwrap_or(Finished {
             cycles: 0,
             state: r,
+        });
+        Made {
+            refusal: number_in(answer),
+            cycles: end.cycles,
+            state: end.state,
         }
     }
 }
@@ -79,65 +89,71 @@ impl Made {
 fn can_begin(r: Record, mem: &[u32], table: &[u32], scratch: &[u32]) -> bool
     ensures { result ≡ can_begin (at_entry r mem.now table.now) scratch.now }
 {
-    let regs = r.regs;
-    let pc = word_of(&regs, 0);
-    let start = word::both(pc < r.k, step::lent::word_at(mem, r.m, pc) == qins::START);
-    let long = word::both(TABLE <= table.len(), 16 * (r.m as usize) <= scratch.len());
-    word::both(start, word::both(r.n == 0, word::both(r.qifw == 0, long)))
+    let pc = r.regs[0];
+    pc < r.k
+        && look(front(mem, r.m), pc as usize) == qins::START
+        && r.n == 0
+        && r.qifw == 0
+        && Record::MAX_LINKS <= table.len()
+        && 16 * (r.m as usize) <= scratch.len()
 }
 
-// 10 or 22, else 0.
-fn refusal_of(r: Record, mem: &[u32], table: &[u32], scratch: &[u32]) -> u32
-    ensures { result ≡ refusal_of (at_entry r mem.now table.now) scratch.now }
+// The refusals of a call before it writes anything.
+#[tactic(auto, unfolding(word::specs::Refusal::refuse))]
+fn check_start(r: Record, mem: &[u32], table: &[u32], scratch: &[u32]) -> Result<(), Refusal>
+    ensures { number result ≡ refusal_of (at_entry r mem.now table.now) scratch.now }
 {
     if r.has_bad_sizes(mem, table) {
-        return 10;
+        return Err(Refusal::Sizes);
     }
     if !can_begin(r, mem, table, scratch) {
-        return 22;
+        return Err(Refusal::Begin);
     }
-    0
+    Ok(())
 }
 
 // The walk from node 1 over exactly M words of memory, which are left as they were, and a table of zeros; zeros
 // again after a refusal.
+// C lends the scratch as words: a walk keeps one memory behind the other in it.
 fn walk_whole(
     r: Record,
     limit: u32,
     mem: &mut [u32],
     table: &mut [u32],
     scratch: &mut [u32],
-) -> Made
+) -> Result<Finished, Refusal>
     requires { Sized r.k r.m (length mem.old) × (scratch_words r ≤ length scratch.old) × (length table.old ≡ most_words) }
-    ensures { (result ≡ answer_of r (walk_over r limit mem.old))
+    ensures { (made_as (number result) (cycles_in result) (state_in r result) ≡ answer_of r (walk_over r limit mem.old))
         × (table.new ≡ drawn_by (walk_over r limit mem.old))
         × (mem.new ≡ mem.old) }
 {
-    copy::clear(table);
-    let words = mem.len();
-    copy::copy(mem, scratch);
+    table.fill(0);
+    let (saved, rest) = scratch.split_at_mut(mem.len());
+    saved.copy_from_slice(mem);
     let regs = r.regs;
-    let w = walk::branch(
-        r.k,
-        r.m,
+    let start = Walked {
+        regs,
+        used: 0,
+        cycles: 0,
+        nodes: 1,
+        node: 1,
+    };
+    let bounds = Bounds {
+        k: r.k,
+        m: r.m,
         limit,
-        8,
-        false,
-        walk::walked_at(regs, 0, 0, 1, 1),
-        mem,
-        &mut scratch[words..],
-        table,
-    );
-    copy::exchange(mem, scratch);
-    let refusal = w.refusal;
-    if refusal != 0 {
-        copy::clear(table);
-        return Made::refused(refusal, r);
-    }
-    Made {
-        refusal: 0,
-        cycles: w.cycles,
-        state: at_node_one(r, w.nodes),
+    };
+    let walked = bounds.branch(8, false, start, mem, rest, table);
+    mem.copy_from_slice(saved);
+    match walked {
+        Ok(end) => Ok(Finished {
+            cycles: end.cycles,
+            state: at_node_one(r, end.nodes),
+        }),
+        Err(refusal) => {
+            table.fill(0);
+            Err(refusal)
+        }
     }
 }
 
@@ -148,20 +164,24 @@ fn at_node_one(r: Record, n: u32) -> Record
     r.with_status(r.status().with_nodes(n).with_node(1, r.qifw))
 }
 
-// Makes the table of the program in mem, in at most limit cycles walked.
-pub fn make(r: Record, limit: u32, mem: &mut [u32], table: &mut [u32], scratch: &mut [u32]) -> Made
-    ensures { MakePromise (at_entry r mem.old table.old) limit scratch.old result.refusal result.cycles (at_exit result.state mem.new table.new) scratch.new }
+// Makes the table of the program in mem, in at most limit cycles walked. Where it is refused, memory is as it was,
+// and the table too, or zeros.
+pub fn make(
+    r: Record,
+    limit: u32,
+    mem: &mut [u32],
+    table: &mut [u32],
+    scratch: &mut [u32],
+) -> Result<Finished, Refusal>
+    ensures { MakePromise (at_entry r mem.old table.old) limit scratch.old (number result) (cycles_in result) (at_exit (state_in r result) mem.new table.new) scratch.new }
 {
-    let refusal = refusal_of(r, mem, table, scratch);
-    if refusal != 0 {
-        return Made::refused(refusal, r);
-    }
+    check_start(r, mem, table, scratch)?;
     let words = r.m as usize;
     walk_whole(
         r,
         limit,
         &mut mem[..words],
-        &mut table[..TABLE],
+        &mut table[..Record::MAX_LINKS],
         &mut scratch[..16 * words],
     )
 }

@@ -1,315 +1,201 @@
 // The walk of a branch and the walk of a qif, which call each other: the nesting left falls, and in a branch
 // the cycles left do.
-ghost use Rattle.std.specs.Prelude.{◌≡◌, ◌&&◌, ◌+◌, ◌-◌, ◌≤◌, ◌<◌, length, take};
+ghost use Rattle.std.specs.Prelude.{◌≡◌, ◌&&◌, ◌+◌, ◌-◌, ◌≤◌, ◌<◌, max, length};
 ghost use Rattle.word.specs.Lists.{same};
+ghost use Rattle.word.specs.Refusal.{number};
 ghost use Rattle.maker.specs.Walk.{linked};
 ghost use Rattle.maker.specs.Making.{branch_at, fork_at};
 ghost use Rattle.maker.specs.Idle.{machine};
-ghost use Rattle.maker.specs.Parts.{view_at, entered, left, held_of, Sized, Room, refused_by, walked_at, Shown, ShownFork, qif_refusal_of, first_fiq_refusal_of, second_fiq_refusal_of};
+ghost use Rattle.maker.specs.Parts.{view_at, entered, left, held_of, Room, walked_at, Shown, ShownFork, qif_refusal_of, fiq_refusal_of};
 
-use crate::copy::{copy, exchange, same_words};
 use crate::draw::link_up;
-use crate::look::{advance, coin_at, is_before_start, move_on};
-use crate::{Seen, Walked};
+use crate::look::{coin_at, moved_on};
+use crate::{Bounds, Seen, Walked};
 use step::lent::{look, put};
+use word::refusals::Refusal;
 
 // ---- where a walk is
 
-fn refuse(k: u32) -> Walked
-    ensures { result ≡ refused_by k }
-{
-    Walked {
-        refusal: k,
-        regs: [0; 16],
-        used: 0,
-        cycles: 0,
-        nodes: 0,
-        node: 0,
+impl Walked {
+    // Before a branch the register changes and then pc moves, after it pc moves first: two functions, not one with a flag.
+
+    // The registers of a branch at its beginning: the coin x in register a, and then pc moved on.
+    fn enter(self, a: usize, x: u32) -> [u32; 16]
+        ensures { result ≡ entered self.regs a x }
+    {
+        let mut regs = self.regs;
+        put(&mut regs, a, x);
+        moved_on(regs)
     }
-}
 
-pub(crate) fn walked_at(regs: [u32; 16], used: u32, cycles: u32, nodes: u32, node: u32) -> Walked
-    ensures { result ≡ walked_at regs used cycles nodes node }
-{
-    Walked {
-        refusal: 0,
-        regs,
-        used,
-        cycles,
-        nodes,
-        node,
+    // Those behind its fiq: pc moved on, and then the old word in register a.
+    fn leave(self, a: usize, old: u32) -> [u32; 16]
+        ensures { result ≡ left self.regs a old }
+    {
+        let mut regs = moved_on(self.regs);
+        put(&mut regs, a, old);
+        regs
     }
-}
 
-// The beginning of a branch: the coin x in register a, and then pc moved on.
-fn enter(from: Walked, a: usize, x: u32, used: u32, nodes: u32, node: u32) -> Walked
-    ensures { result ≡ walked_at (entered from.regs a x) used 0 nodes node }
-{
-    let mut regs = from.regs;
-    put(&mut regs, a, x);
-    move_on(&mut regs);
-    walked_at(regs, used, 0, nodes, node)
-}
-
-// Behind a fiq: pc moved on, and then the old word in register a.
-fn leave(at: Walked, a: usize, old: u32) -> [u32; 16]
-    ensures { result ≡ left at.regs a old }
-{
-    let mut regs = at.regs;
-    move_on(&mut regs);
-    put(&mut regs, a, old);
-    regs
+    // The fiq at pc names register a, which holds x.
+    fn holds(self, a: usize, x: u32, mem: &[u32]) -> bool
+        ensures { result ≡ held_of a x self.regs mem.now }
+    {
+        let c = coin_at(&self.regs, mem);
+        a == c && look(&self.regs, c) == x
+    }
 }
 
 // ---- the tests of a qif
 
-fn qif_refusal(limit: u32, from: Walked) -> u32
-    ensures { result ≡ qif_refusal_of limit from.nodes from.used }
-{
-    if limit <= from.used {
-        return 23;
+impl Bounds {
+    #[tactic(auto, unfolding(crate::specs::Parts::qif_refusal_of, word::specs::Refusal::refuse))]
+    fn check_qif(self, from: Walked) -> Result<(), Refusal>
+        ensures { number result ≡ qif_refusal_of self.limit from.nodes from.used }
+    {
+        if self.limit <= from.used || 509 < from.nodes {
+            return Err(Refusal::Bound);
+        }
+        Ok(())
     }
-    if 509 < from.nodes {
-        return 23;
-    }
-    0
-}
 
-// The fiq at pc names register a, which holds x.
-fn holds(m: u32, a: usize, x: u32, at: Walked, mem: &[u32]) -> bool
-    requires { length mem.now ≡ m }
-    ensures { result ≡ held_of a x at.regs mem.now }
-{
-    let regs = at.regs;
-    let c = coin_at(m, &regs, mem);
-    word::both(a == c, look(&regs, c) == x)
-}
-
-// At the fiq of branch 0.
-fn first_fiq_refusal(k: u32, m: u32, limit: u32, a: usize, at: Walked, mem: &[u32]) -> u32
-    requires { length mem.now ≡ m }
-    ensures { result ≡ first_fiq_refusal_of k m limit a at.used at.regs mem.now }
-{
-    let regs = at.regs;
-    if is_before_start(k, m, &regs, mem) {
-        return 18;
+    // At the fiq of branch x, of a qif with register a; full: no node may be made.
+    #[tactic(auto, unfolding(crate::specs::Parts::fiq_refusal_of, word::specs::Refusal::refuse))]
+    fn check_fiq(self, a: usize, x: u32, full: bool, at: Walked, mem: &[u32]) -> Result<(), Refusal>
+        ensures { number result ≡ fiq_refusal_of self.k self.m self.limit a x full at.used at.regs mem.now }
+    {
+        if self.is_before_start(&at.regs, mem) {
+            return Err(Refusal::Landing);
+        }
+        if self.limit <= at.used || full {
+            return Err(Refusal::Bound);
+        }
+        if !at.holds(a, x, mem) {
+            return Err(Refusal::Branches);
+        }
+        Ok(())
     }
-    if limit <= at.used {
-        return 23;
-    }
-    if !holds(m, a, 0, at, mem) {
-        return 24;
-    }
-    0
 }
 
 // The two branches stand the same after their fiq: registers and memory, that of branch 0 being saved.
+#[tactic(auto, using(crate::proofs::Compared::alike))]
 fn agree(a: usize, old: u32, first: Walked, second: Walked, mem: &[u32], saved: &[u32]) -> bool
-    requires { length mem.now ≤ length saved.now }
     ensures { result ≡ (same (left first.regs a old) (left second.regs a old)
-        && same (take (length mem.now) saved.now) mem.now) }
+        && same saved.now mem.now) }
 {
-    let x = leave(first, a, old);
-    let y = leave(second, a, old);
-    word::both(same_words(&y, &x), same_words(mem, saved))
+    first.leave(a, old) == second.leave(a, old) && saved == mem
 }
 
-// At the fiq of branch 1; agreed is what agree tells.
-fn second_fiq_refusal(
-    k: u32,
-    m: u32,
-    limit: u32,
-    a: usize,
-    at: Walked,
-    mem: &[u32],
-    agreed: bool,
-) -> u32
-    requires { length mem.now ≡ m }
-    ensures { result ≡ second_fiq_refusal_of k m limit a at.nodes at.used at.regs mem.now agreed }
+// Where the walk goes on with regs, after the qif at from, whose branches came to first and second.
+fn join(from: Walked, first: Walked, second: Walked, regs: [u32; 16], table: &mut [u32]) -> Walked
+    requires { (from.nodes ≤ 509) × (second.nodes ≤ 510) × (second.used + 1 < 4294967296) × (2 + max first.cycles second.cycles ≤ second.used) }
+    ensures { (result ≡ walked_at regs (second.used + 1) (2 + max first.cycles second.cycles) (second.nodes + 1) (second.nodes + 1))
+        × (table.new ≡ linked from.node (from.nodes + 1) (from.nodes + 2) first.node second.node (second.nodes + 1)
+        (second.cycles - first.cycles) (first.cycles - second.cycles) table.old) }
 {
-    let regs = at.regs;
-    if is_before_start(k, m, &regs, mem) {
-        return 18;
-    }
-    if limit <= at.used {
-        return 23;
-    }
-    if 510 < at.nodes {
-        return 23;
-    }
-    if !holds(m, a, 1, at, mem) {
-        return 24;
-    }
-    if !agreed {
-        return 24;
-    }
-    0
-}
-
-// ---- the links of a qif
-
-fn lack(a: Walked, b: Walked) -> u32
-    ensures { result ≡ b.cycles - a.cycles }
-{
-    if a.cycles < b.cycles {
-        b.cycles - a.cycles
-    } else {
-        0
+    link_up(table, from, first, second);
+    Walked {
+        regs,
+        used: second.used + 1,
+        cycles: 2 + first.cycles.max(second.cycles),
+        nodes: second.nodes + 1,
+        node: second.nodes + 1,
     }
 }
 
-// The links of the qif at from, whose branches came to a and b, and where the walk goes on with regs.
-fn join(from: Walked, a: Walked, b: Walked, regs: [u32; 16], table: &mut [u32]) -> Walked
-    requires { (from.nodes ≤ 509) × (b.nodes ≤ 510) × (b.used + 1 < 4294967296) × (2 + (a.cycles + (b.cycles - a.cycles)) ≤ b.used) }
-    ensures { (result ≡ walked_at regs (b.used + 1) (2 + (a.cycles + (b.cycles - a.cycles))) (b.nodes + 1) (b.nodes + 1))
-        × (table.new ≡ linked from.node (from.nodes + 1) (from.nodes + 2) a.node b.node (b.nodes + 1)
-        (b.cycles - a.cycles) (a.cycles - b.cycles) table.old) }
-{
-    let next = b.nodes + 1;
-    let x = lack(a, b);
-    let y = lack(b, a);
-    link_up(
-        table,
-        from.node,
-        from.nodes + 1,
-        from.nodes + 2,
-        a.node,
-        b.node,
-        next,
-        x,
-        y,
-    );
-    walked_at(regs, b.used + 1, 2 + (a.cycles + x), next, next)
-}
+// ---- the walks. Memory, scratch and table stay three parameters: the scratch is another one at each nesting, and
+// a struct of the other two would be lent anew at each call, which is no plainer.
 
-// ---- the walks
-
-#[cycle(branch_fork)]
-pub(crate) fn branch(
-    k: u32,
-    m: u32,
-    limit: u32,
-    nest: u32,
-    inside: bool,
-    from: Walked,
-    mem: &mut [u32],
-    scratch: &mut [u32],
-    table: &mut [u32],
-) -> Walked
-    requires { Sized k m (length mem.old) × Room nest m (length scratch.old) }
-    ensures { Shown k m (branch_at machine limit nest inside from.nodes from.used (view_at k m from.regs mem.old))
-        from.node from.nodes from.used table.old result table.new mem.new }
-{
-    let first = from.regs;
-    let mut at = walked_at(first, from.used, 0, from.nodes, from.node);
-    loop {
-        let here = at.regs;
-        let t = advance(k, m, here, mem);
-        let seen = t.seen;
-        match seen {
-            Seen::Halts(n) => return refuse(n),
-            Seen::Last => {
-                if inside {
-                    return refuse(12);
+// `inside` picks no other walk: it says which ends are right, at finish or at a fiq.
+impl Bounds {
+    #[cycle(branch_fork)]
+    pub(crate) fn branch(
+        self,
+        nest: u32,
+        inside: bool,
+        from: Walked,
+        mem: &mut [u32],
+        scratch: &mut [u32],
+        table: &mut [u32],
+    ) -> Result<Walked, Refusal>
+        requires { (length mem.old ≡ self.m) × Room nest self.m (length scratch.old) }
+        ensures { Shown self.k self.m (branch_at machine self.limit nest inside from.nodes from.used (view_at self.k self.m from.regs mem.old))
+            from.node from.nodes from.used table.old result table.new mem.new }
+    {
+        let mut at = Walked { cycles: 0, ..from };
+        loop {
+            match self.advance(at.regs, mem)? {
+                Seen::Last if inside => return Err(Refusal::End),
+                Seen::Last => return Ok(at),
+                Seen::Goes(_) if self.limit <= at.used => return Err(Refusal::Bound),
+                Seen::Goes(regs) => {
+                    at = Walked {
+                        regs,
+                        used: at.used + 1,
+                        cycles: at.cycles + 1,
+                        ..at
+                    };
                 }
-                return at;
-            }
-            Seen::Goes => {
-                if limit <= at.used {
-                    return refuse(23);
+                Seen::Forks => {
+                    let after = self.fork(nest, at, mem, scratch, table)?;
+                    at = Walked {
+                        cycles: at.cycles + after.cycles,
+                        ..after
+                    };
                 }
-                let next = t.regs;
-                let used = at.used + 1;
-                let cycles = at.cycles + 1;
-                at = walked_at(next, used, cycles, at.nodes, at.node);
-            }
-            Seen::Forks => {
-                let f = fork(k, m, limit, nest, at, mem, scratch, table);
-                if f.refusal != 0 {
-                    return f;
-                }
-                let next = f.regs;
-                let cycles = at.cycles + f.cycles;
-                at = walked_at(next, f.used, cycles, f.nodes, f.node);
-            }
-            Seen::Joins => {
-                if inside {
-                    return at;
-                }
-                return refuse(17);
+                Seen::Joins if inside => return Ok(at),
+                Seen::Joins => return Err(Refusal::Node),
             }
         }
     }
-}
 
-// The memory of the start is saved in the front of the scratch, and that of branch 0's end in its place;
-// the branches have the scratch after it.
-#[cycle(branch_fork)]
-pub(crate) fn fork(
-    k: u32,
-    m: u32,
-    limit: u32,
-    nest: u32,
-    from: Walked,
-    mem: &mut [u32],
-    scratch: &mut [u32],
-    table: &mut [u32],
-) -> Walked
-    requires { Sized k m (length mem.old) × Room nest m (length scratch.old) }
-    ensures { ShownFork k m (fork_at machine limit nest from.nodes from.used (view_at k m from.regs mem.old))
-        from.node from.nodes from.used table.old result table.new mem.new }
-{
-    if nest == 0 {
-        return refuse(23);
+    // The memory of the start is saved in the front of the scratch, and that of branch 0's end in its place;
+    // the branches have the rest. The second branch begins with what the first left, so they are no loop of two.
+    #[cycle(branch_fork)]
+    pub(crate) fn fork(
+        self,
+        nest: u32,
+        from: Walked,
+        mem: &mut [u32],
+        scratch: &mut [u32],
+        table: &mut [u32],
+    ) -> Result<Walked, Refusal>
+        requires { (length mem.old ≡ self.m) × Room nest self.m (length scratch.old) }
+        ensures { ShownFork self.k self.m (fork_at machine self.limit nest from.nodes from.used (view_at self.k self.m from.regs mem.old))
+            from.node from.nodes from.used table.old result table.new mem.new }
+    {
+        if nest == 0 {
+            return Err(Refusal::Bound);
+        }
+        self.check_qif(from)?;
+        let c = coin_at(&from.regs, mem);
+        let old = look(&from.regs, c);
+        let (saved, rest) = scratch.split_at_mut(mem.len());
+        saved.copy_from_slice(mem);
+        let regs = from.enter(c, 0);
+        let one = Walked {
+            regs,
+            used: from.used + 1,
+            cycles: 0,
+            nodes: from.nodes + 2,
+            node: from.nodes + 1,
+        };
+        let first = self.branch(nest - 1, true, one, mem, rest, table)?;
+        self.check_fiq(c, 0, false, first, mem)?;
+        mem.swap_with_slice(saved);
+        let regs = from.enter(c, 1);
+        let two = Walked {
+            regs,
+            used: first.used + 1,
+            cycles: 0,
+            nodes: first.nodes,
+            node: from.nodes + 2,
+        };
+        let second = self.branch(nest - 1, true, two, mem, rest, table)?;
+        self.check_fiq(c, 1, 510 < second.nodes, second, mem)?;
+        if !agree(c, old, first, second, mem, saved) {
+            return Err(Refusal::Branches);
+        }
+        Ok(join(from, first, second, first.leave(c, old), table))
     }
-    let o = qif_refusal(limit, from);
-    if o != 0 {
-        return refuse(o);
-    }
-    let s = from.regs;
-    let c = coin_at(m, &s, mem);
-    let old = look(&s, c);
-    let words = mem.len();
-    copy(mem, scratch);
-    let one = enter(from, c, 0, from.used + 1, from.nodes + 2, from.nodes + 1);
-    let a = branch(
-        k,
-        m,
-        limit,
-        nest - 1,
-        true,
-        one,
-        mem,
-        &mut scratch[words..],
-        table,
-    );
-    if a.refusal != 0 {
-        return a;
-    }
-    let shut = first_fiq_refusal(k, m, limit, c, a, mem);
-    if shut != 0 {
-        return refuse(shut);
-    }
-    exchange(mem, scratch);
-    let two = enter(from, c, 1, a.used + 1, a.nodes, from.nodes + 2);
-    let b = branch(
-        k,
-        m,
-        limit,
-        nest - 1,
-        true,
-        two,
-        mem,
-        &mut scratch[words..],
-        table,
-    );
-    if b.refusal != 0 {
-        return b;
-    }
-    let agreed = agree(c, old, a, b, mem, scratch);
-    let met = second_fiq_refusal(k, m, limit, c, b, mem, agreed);
-    if met != 0 {
-        return refuse(met);
-    }
-    join(from, a, b, leave(a, c, old), table)
 }
