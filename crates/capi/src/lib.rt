@@ -20,41 +20,42 @@ use links::Checked;
 use machine::{Batch, Preview, Record, Turned};
 use maker::Made;
 use wheel::Wheeled;
+use word::refusals::number_in;
 
 // 1 where the word is an instruction, else 0.
 #[unsafe(no_mangle)]
 pub extern "C" fn qins_is_instruction(w: u32) -> u32
     ensures { result ≡ pick (is_instruction w) 1 0 }
 {
-    word::choose(machine::is_instruction(w), 1, 0)
+    u32::from(machine::is_instruction(w))
 }
 
 #[unsafe(no_mangle)]
 pub extern "C" fn crank_forward(r: Record, mem: &mut [u32], table: &[u32]) -> Turned
     ensures { TurnPromise Direction.Forward (at_entry r mem.old table.now) result.refusal (at_exit result.state mem.new table.now) }
 {
-    r.forward(mem, table)
+    Turned::of(r, r.forward(mem, table))
 }
 
 #[unsafe(no_mangle)]
 pub extern "C" fn crank_back(r: Record, mem: &mut [u32], table: &[u32]) -> Turned
     ensures { TurnPromise Direction.Back (at_entry r mem.old table.now) result.refusal (at_exit result.state mem.new table.now) }
 {
-    r.back(mem, table)
+    Turned::of(r, r.back(mem, table))
 }
 
 #[unsafe(no_mangle)]
 pub extern "C" fn crank_preview_forward(r: Record, mem: &[u32], table: &[u32]) -> Preview
     ensures { PreviewPromise Direction.Forward (at_entry r mem.now table.now) result }
 {
-    r.preview_forward(mem, table)
+    Preview::of(r, r.preview_forward(mem, table))
 }
 
 #[unsafe(no_mangle)]
 pub extern "C" fn crank_preview_back(r: Record, mem: &[u32], table: &[u32]) -> Preview
     ensures { PreviewPromise Direction.Back (at_entry r mem.now table.now) result }
 {
-    r.preview_back(mem, table)
+    Preview::of(r, r.preview_back(mem, table))
 }
 
 #[unsafe(no_mangle)]
@@ -88,7 +89,7 @@ pub extern "C" fn crank_samples(
 pub extern "C" fn crank_load(file: &[u8], mem: &mut [u32], table: &mut [u32]) -> Loaded
     ensures { LoadPromise file.now mem.old table.old result.refusal (at_exit result.state mem.new table.new) }
 {
-    image::load(file, mem, table)
+    Loaded::from(image::load(file, mem, table))
 }
 
 // The preface is the file's first so many bytes.
@@ -103,21 +104,21 @@ pub extern "C" fn crank_preface_length(file: &[u8]) -> usize
 pub extern "C" fn crank_save(r: Record, mem: &[u32], table: &[u32], out: &mut [u8]) -> u32
     ensures { SavePromise (at_entry r mem.now table.now) out.old result out.new }
 {
-    image::save(r, mem, table, out)
+    number_in(image::save(r, mem, table, out))
 }
 
 #[unsafe(no_mangle)]
 pub extern "C" fn crank_check(r: Record, mem: &[u32], table: &[u32]) -> Checked
     ensures { result ≡ check_of (at_entry r mem.now table.now) }
 {
-    links::check(r, mem, table)
+    Checked::from(links::check(r, mem, table))
 }
 
 #[unsafe(no_mangle)]
 pub extern "C" fn crank_check_node(r: Record, node: u32, mem: &[u32], table: &[u32]) -> u32
     ensures { result ≡ check_node_of (at_entry r mem.now table.now) node }
 {
-    links::check_node(r, node, mem, table)
+    number_in(links::check_node(r, node, mem, table))
 }
 
 #[unsafe(no_mangle)]
@@ -130,5 +131,5 @@ pub extern "C" fn crank_make_table(
 ) -> Made
     ensures { MakePromise (at_entry r mem.old table.old) limit scratch.old result.refusal result.cycles (at_exit result.state mem.new table.new) scratch.new }
 {
-    maker::make(r, limit, mem, table, scratch)
+    Made::of(r, maker::make(r, limit, mem, table, scratch))
 }
