@@ -6,13 +6,9 @@ use std::env::{Env, FillError};
 
 // How many words the command line has, the program's own name among them. No word is copied, so it may be any.
 fn count_words(rt: &HostRuntime) -> usize {
-    for i in 0..usize::MAX {
-        match rt.arg(i, &mut []) {
-            Err(FillError::NotPresent) => return i,
-            _ => {}
-        }
-    }
-    usize::MAX
+    (0..usize::MAX)
+        .find(|&i| matches!(rt.arg(i, &mut []), Err(FillError::NotPresent)))
+        .unwrap_or(usize::MAX)
 }
 
 fn main(rt: HostRuntime) {

@@ -1,18 +1,26 @@
 -- What the program does with a file (document 01, "The crank program"): it loads it, and turns forward until refused or
 -- 1,000,000 turns, in one batch.
-use Rattle.std.specs.Prelude.{ℕ, ◌<◌, ◌≤◌, ◌≡◌, ◌≢◌, Bool, not, List, eqb}
+use Rattle.std.specs.Prelude.{ℕ, ◌<◌, ◌≤◌, ◌≡◌, ◌≢◌, Bool, not, List, eqb, Result, Ok, Err}
+use Rattle.word.specs.declared.refusals.Refusal.{Refusal}
 use Rattle.word.specs.Refusal.{refuse}
 use Rattle.step.specs.declared.Direction.TheVariants.{Forward}
 use Rattle.machine.specs.Machine.{zeros, Machine, machine_of}
 use Rattle.machine.specs.Batch.{BatchPromise}
 use Rattle.machine.specs.declared.Batch.{Batch}
 use Rattle.image.specs.Load.{LoadPromise}
+use Rattle.program.specs.declared.Ending.{Ending}
+use Rattle.program.specs.declared.Ending.TheVariants.{Done, LoadRefused, HasArguments, NotWritten}
 
 abbrev pub limit : ℕ
 limit = 1000000
 
 abbrev pub no_turns : Batch
 no_turns = record { turns = 0; refusal = 0; state = zeros }
+
+-- the turns in what a file is answered
+abbrev pub turns_in : Result Batch Refusal → Batch
+turns_in (Ok a) = a
+turns_in (Err e) = no_turns
 
 -- What the program promises of a file and the lent words: load's refusal w, the turns a, and the lent words at exit.
 -- A refused load is all that is done; after an accepted one the loaded machine is turned.
@@ -35,6 +43,12 @@ status_of refusal written =
     refuse (not written) 3
     (refuse (not (eqb refusal 0)) 1
     0)
+
+abbrev pub status_in : Ending → ℕ
+status_in Done = 0
+status_in LoadRefused = 1
+status_in HasArguments = 2
+status_in NotWritten = 3
 
 -- The status of a run is that of a refusal and of whether all was written; which ones, no contract can say, since the
 -- file is read and the answer written outside of any.
