@@ -114,7 +114,7 @@ fn check_start(r: Record, mem: &[u32], table: &[u32], scratch: &[u32]) -> Result
 
 // The walk from node 1 over exactly M words of memory, which are left as they were, and a table of zeros; zeros
 // again after a refusal.
-// C lends the scratch as words: a walk keeps one memory behind the other in it.
+// C lends the scratch as words: a walk keeps one memory after the other in it.
 fn walk_whole(
     r: Record,
     limit: u32,

@@ -28,7 +28,7 @@ impl Walked {
         moved_on(regs)
     }
 
-    // Those behind its fiq: pc moved on, and then the old word in register a.
+    // Those after its fiq: pc moved on, and then the old word in register a.
     fn leave(self, a: usize, old: u32) -> [u32; 16]
         ensures { result ≡ left self.regs a old }
     {
