@@ -3,7 +3,8 @@
 #
 # Compiles the header alone, as C and, where there is a C++ compiler, as C++;
 # looks in it for a declaration of every call that the static libraries in the
-# folder LIBRARIES export; links roundtrip.c with those of the calls, as both, and
+# folder LIBRARIES export; looks whether these want names from outside that
+# docs/CALLS.md doesn't say; links roundtrip.c with those of the calls, as both, and
 # runs it on the images, which must make every call; then does what docs/CALLS.md
 # says. Exits with 1 where one of these fails.
 
@@ -45,6 +46,25 @@ else
     echo "header: there is no $cxx, so it is not tried as C++"
     cxx=
 fi
+
+# wanting LIBRARY NAME...: names that the library asks for from outside, other than these, one per line
+wanting() {
+    library=$1
+    shift
+    nm -u "$libraries/lib$library.a" | awk '$1 == "U" { print $2 }' | sort -u >"$scratch/wanted"
+    for name; do
+        grep -vx "$name" "$scratch/wanted" >"$scratch/others"
+        mv "$scratch/others" "$scratch/wanted"
+    done
+    cat "$scratch/wanted"
+}
+for library in capi session; do
+    outside=$(wanting $library memset)
+    [ -z "$outside" ] || fail "lib$library.a wants $outside"
+done
+outside=$(wanting program memset read write __errno_location)
+[ -z "$outside" ] || fail "libprogram.a wants $outside"
+[ -n "$(wanting program)" ] || fail 'nm shows no name that libprogram.a wants'
 
 # Preprocessed, since comments mention calls too.
 compile "$cc" -std=c11 -E -P -x c "$header" >"$scratch/declarations" || fail 'the preprocessor'

@@ -15,6 +15,7 @@ pub mod Turns
 pub mod Followed
 pub mod Stepped
 pub mod Rooms
+pub mod Copies
 pub mod Compared
 pub mod Loops
 pub mod Forking

@@ -112,6 +112,16 @@ fn check_start(r: Record, mem: &[u32], table: &[u32], scratch: &[u32]) -> Result
     Ok(())
 }
 
+// Writes the words of from to to, which is as long. By a loop: with the library's copy the archives for C want memmove.
+fn copy(from: &[u32], to: &mut [u32])
+    requires { length from.now ≡ length to.old }
+    ensures { to.new ≡ from.now }
+{
+    for (i, word) in to.iter_mut().enumerate() {
+        *word = from[i];
+    }
+}
+
 // The walk from node 1 over exactly M words of memory, which are left as they were, and a table of zeros; zeros
 // again after a refusal.
 // C lends the scratch as words: a walk keeps one memory after the other in it.
@@ -129,7 +139,7 @@ fn walk_whole(
 {
     table.fill(0);
     let (saved, rest) = scratch.split_at_mut(mem.len());
-    saved.copy_from_slice(mem);
+    copy(mem, saved);
     let regs = r.regs;
     let start = Walked {
         regs,
@@ -144,7 +154,7 @@ fn walk_whole(
         limit,
     };
     let walked = bounds.branch(8, false, start, mem, rest, table);
-    mem.copy_from_slice(saved);
+    copy(saved, mem);
     match walked {
         Ok(end) => Ok(Finished {
             cycles: end.cycles,

@@ -10,7 +10,7 @@ ghost use Rattle.maker.specs.Parts.{view_at, entered, left, held_of, Room, walke
 
 use crate::draw::link_up;
 use crate::look::{coin_at, moved_on};
-use crate::{Bounds, Seen, Walked};
+use crate::{Bounds, Seen, Walked, copy};
 use step::lent::{look, put};
 use word::refusals::Refusal;
 
@@ -171,7 +171,7 @@ impl Bounds {
         let c = coin_at(&from.regs, mem);
         let old = look(&from.regs, c);
         let (saved, rest) = scratch.split_at_mut(mem.len());
-        saved.copy_from_slice(mem);
+        copy(mem, saved);
         let regs = from.enter(c, 0);
         let one = Walked {
             regs,

@@ -20,7 +20,7 @@ returns-in_Ok-walked c =
     let g = c.args in
     let m = ended_made g.r g.r.k g.r.m (walk_over g.r g.limit g.mem.now) c.fill.new.self c.branch-walked.new.table c.branch-walked.new.mem c.in_Ok-walked.end c.in_Ok-walked.ensures
     (c.fill.ensures.after (λ y e. e) ∙ ap (λ (n : ℕ). replicate n 0) c.requires.2) in
-    (ap (λ (s : Record). made_as 0 c.in_Ok-walked.end.cycles s) c.at_node_one.ensures ∙ m.0, m.1, c.copy_from_slice-2.ensures.after ∙ c.copy_from_slice.ensures.after)
+    (ap (λ (s : Record). made_as 0 c.in_Ok-walked.end.cycles s) c.at_node_one.ensures ∙ m.0, m.1, c.copy-2.ensures ∙ c.copy.ensures)
 
 pub returns-in_Err-walked : goal.returns-in_Err-walked
 returns-in_Err-walked c =
@@ -28,5 +28,5 @@ returns-in_Err-walked c =
     let m = refused_made g.r g.r.k g.r.m (walk_over g.r g.limit g.mem.now) c.fill.new.self c.branch-walked.new.table c.branch-walked.new.mem c.in_Err-walked.refusal c.in_Err-walked.ensures in (
       m.0,
       c.fill-in_Err-walked.ensures.after (λ y e. e) ∙ (ap (λ (n : ℕ). replicate n 0) (c.branch-walked.auto.table ∙ c.fill.ensures.len ∙ c.requires.2) ∙ m.1),
-      c.copy_from_slice-2.ensures.after ∙ c.copy_from_slice.ensures.after,
+      c.copy-2.ensures ∙ c.copy.ensures,
     )

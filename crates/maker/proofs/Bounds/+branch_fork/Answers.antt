@@ -129,7 +129,7 @@ fork-returns-in_err-second t c =
     let f = rw (c.enter-regs.ensures, c.coin_at-c.ensures) at c.in_ok-first.ensures in
     let shut-0 = rw c.coin_at-c.ensures at c.in_ok-check_fiq.ensures in
     let f₁ = rw (c.enter-regs-2.ensures, c.coin_at-c.ensures) at c.in_err-second.ensures in
-    rw (p.1, p.2) (refused₁ g.self.k g.self.m g.self.limit g.nest g.from g.mem.now g.table.now c.if-nest-eq0.false (sym c.in_ok-check_qif.ensures) c.in_ok-first.first c.branch-self.new.table c.branch-self.new.mem f (sym shut-0) c.swap_with_slice.new.self (c.swap_with_slice.ensures.after ∙ c.copy_from_slice.ensures.after) c.in_err-second.field-0.0 _ _ _ _ f₁)
+    rw (p.1, p.2) (refused₁ g.self.k g.self.m g.self.limit g.nest g.from g.mem.now g.table.now c.if-nest-eq0.false (sym c.in_ok-check_qif.ensures) c.in_ok-first.first c.branch-self.new.table c.branch-self.new.mem f (sym shut-0) c.swap_with_slice.new.self (c.swap_with_slice.ensures.after ∙ c.copy.ensures) c.in_err-second.field-0.0 _ _ _ _ f₁)
 
 pub fork-returns-in_err-check_fiq-2 : goal.fork-returns-in_err-check_fiq-2
 fork-returns-in_err-check_fiq-2 t c =
@@ -138,7 +138,7 @@ fork-returns-in_err-check_fiq-2 t c =
     let f = rw (c.enter-regs.ensures, c.coin_at-c.ensures) at c.in_ok-first.ensures in
     let shut-0 = rw c.coin_at-c.ensures at c.in_ok-check_fiq.ensures in
     let f₁ = rw (c.enter-regs-2.ensures, c.coin_at-c.ensures) at c.in_ok-second.ensures in
-    rw (p.1, p.2) (shut₁ g.self.k g.self.m g.self.limit g.nest g.from g.mem.now g.table.now c.if-nest-eq0.false (sym c.in_ok-check_qif.ensures) c.in_ok-first.first c.branch-self.new.table c.branch-self.new.mem f (sym shut-0) c.swap_with_slice.new.self (c.swap_with_slice.ensures.after ∙ c.copy_from_slice.ensures.after) c.in_ok-second.second c.branch-self-2.new.table c.branch-self-2.new.mem f₁ c.in_err-check_fiq-2.field-0.0 _ _ (rw c.coin_at-c.ensures at c.in_err-check_fiq-2.ensures))
+    rw (p.1, p.2) (shut₁ g.self.k g.self.m g.self.limit g.nest g.from g.mem.now g.table.now c.if-nest-eq0.false (sym c.in_ok-check_qif.ensures) c.in_ok-first.first c.branch-self.new.table c.branch-self.new.mem f (sym shut-0) c.swap_with_slice.new.self (c.swap_with_slice.ensures.after ∙ c.copy.ensures) c.in_ok-second.second c.branch-self-2.new.table c.branch-self-2.new.mem f₁ c.in_err-check_fiq-2.field-0.0 _ _ (rw c.coin_at-c.ensures at c.in_err-check_fiq-2.ensures))
 
 pub fork-returns-then-not-agree : goal.fork-returns-then-not-agree
 fork-returns-then-not-agree t c =
@@ -149,7 +149,7 @@ fork-returns-then-not-agree t c =
     let shut-1 = rw c.coin_at-c.ensures at c.in_ok-check_fiq-2.ensures in
     let was = rw c.coin_at-c.ensures at c.look-old.ensures in
     let told = rw (c.coin_at-c.ensures, c.swap_with_slice.ensures.other_after) at c.agree.ensures in
-    differ g.self.k g.self.m g.self.limit g.nest g.from g.mem.now g.table.now c.if-nest-eq0.false (sym c.in_ok-check_qif.ensures) c.in_ok-first.first c.branch-self.new.table c.branch-self.new.mem f (sym shut-0) c.swap_with_slice.new.self (c.swap_with_slice.ensures.after ∙ c.copy_from_slice.ensures.after) c.in_ok-second.second c.branch-self-2.new.table c.branch-self-2.new.mem f₁ (sym shut-1) c.look-old.result was _ _ (sym told ∙ c.if-not-agree.true)
+    differ g.self.k g.self.m g.self.limit g.nest g.from g.mem.now g.table.now c.if-nest-eq0.false (sym c.in_ok-check_qif.ensures) c.in_ok-first.first c.branch-self.new.table c.branch-self.new.mem f (sym shut-0) c.swap_with_slice.new.self (c.swap_with_slice.ensures.after ∙ c.copy.ensures) c.in_ok-second.second c.branch-self-2.new.table c.branch-self-2.new.mem f₁ (sym shut-1) c.look-old.result was _ _ (sym told ∙ c.if-not-agree.true)
 
 pub fork-join-requires : goal.fork-join-requires
 fork-join-requires t c =
@@ -162,7 +162,7 @@ fork-join-requires t c =
       few.1,
       ltb-false 510 _ some.1,
       omega (arith, some.0),
-      short g.self.k g.self.m g.self.limit g.nest g.from g.mem.now g.table.now c.if-nest-eq0.false (sym c.in_ok-check_qif.ensures) c.in_ok-first.first c.branch-self.new.table c.branch-self.new.mem f (sym shut-0) c.swap_with_slice.new.self (c.swap_with_slice.ensures.after ∙ c.copy_from_slice.ensures.after) c.in_ok-second.second c.branch-self-2.new.table c.branch-self-2.new.mem f₁,
+      short g.self.k g.self.m g.self.limit g.nest g.from g.mem.now g.table.now c.if-nest-eq0.false (sym c.in_ok-check_qif.ensures) c.in_ok-first.first c.branch-self.new.table c.branch-self.new.mem f (sym shut-0) c.swap_with_slice.new.self (c.swap_with_slice.ensures.after ∙ c.copy.ensures) c.in_ok-second.second c.branch-self-2.new.table c.branch-self-2.new.mem f₁,
     )
 
 pub fork-returns : goal.fork-returns
@@ -175,4 +175,4 @@ fork-returns t c =
     let was = rw c.coin_at-c.ensures at c.look-old.ensures in
     let told = rw (c.coin_at-c.ensures, c.swap_with_slice.ensures.other_after) at c.agree.ensures in
     let to = rw (c.leave.ensures, c.coin_at-c.ensures) at c.join.ensures.0 in
-    rw to (done g.self.k g.self.m g.self.limit g.nest g.from g.mem.now g.table.now c.if-nest-eq0.false (sym c.in_ok-check_qif.ensures) c.in_ok-first.first c.branch-self.new.table c.branch-self.new.mem f (sym shut-0) c.swap_with_slice.new.self (c.swap_with_slice.ensures.after ∙ c.copy_from_slice.ensures.after) c.in_ok-second.second c.branch-self-2.new.table c.branch-self-2.new.mem f₁ (sym shut-1) c.look-old.result was _ (sym told ∙ c.if-not-agree.false) c.join.ensures.1)
+    rw to (done g.self.k g.self.m g.self.limit g.nest g.from g.mem.now g.table.now c.if-nest-eq0.false (sym c.in_ok-check_qif.ensures) c.in_ok-first.first c.branch-self.new.table c.branch-self.new.mem f (sym shut-0) c.swap_with_slice.new.self (c.swap_with_slice.ensures.after ∙ c.copy.ensures) c.in_ok-second.second c.branch-self-2.new.table c.branch-self-2.new.mem f₁ (sym shut-1) c.look-old.result was _ (sym told ∙ c.if-not-agree.false) c.join.ensures.1)
