@@ -83,7 +83,9 @@ impl Display for Report {
                 for x in &r.regs[1..] {
                     write!(f, " {x}")?;
                 }
-                writeln!(f, "\nnode {} wait {}", r.qifv, r.qifw)
+                // a write of its own: a pipe may have room for the line end and for no more
+                writeln!(f)?;
+                writeln!(f, "node {} wait {}", r.qifv, r.qifw)
             }
             Err(refusal) => writeln!(f, "refusal {}", refusal.number()),
         }
