@@ -1,6 +1,6 @@
 -- A run of turns, and one turn alone. Assumes nothing.
-use mathlib.Core.Path.{◌≡◌, sym, ap, ◌∙◌, subst, subst⁻¹}
-use mathlib.Core.Bool.{false}
+use mathlib.Core.Path.{◌≡◌, refl, sym, ap, ◌∙◌, subst, subst⁻¹}
+use mathlib.Core.Bool.{Bool, true, false}
 use mathlib.Core.Logic.{◌≢◌}
 use mathlib.Core.List.{List}
 use Prim.Native.Nat.{ℕ, ◌+◌, ◌<◌, ◌≤◌}
@@ -10,6 +10,7 @@ use lib.IntN.{ℤ}
 use mir.Syntax.{w64}
 use mir.Val.{SFits}
 use mir.Facts.{to_z-of_z}
+use borrow.Author.Tests.{eqb-true, eqb-false}
 use Rattle.std.specs.Prelude.{Result, Option, Some, None}
 use Rattle.word.specs.Word.{pick}
 use Rattle.word.specs.Refusal.{number_of, number}
@@ -21,11 +22,11 @@ use Rattle.step.specs.declared.Direction.{Direction}
 use Rattle.step.specs.View.{seen}
 use Rattle.step.proofs.Sized.{SameSizes}
 use Rattle.machine.specs.Machine.{status_of, record_at, updated, Machine, left_as, Bounded}
-use Rattle.machine.specs.Calls.{TurnPromise, next}
+use Rattle.machine.specs.Calls.{TurnPromise, refusal, next}
 use Rattle.machine.specs.Turn.{plan_at}
 use Rattle.machine.specs.Position.{is_last, advanced}
 use Rattle.machine.specs.InPlace.{Turns, Steps, Shows, status_shown, store_shown, room, last_refusal, number_by, First, Runs}
-use Rattle.machine.specs.Batch.{BatchPromise}
+use Rattle.machine.specs.Batch.{after, turns_made, BatchPromise}
 use Rattle.machine.specs.declared.Record.{Record}
 use Rattle.machine.specs.declared.Ran.{Ran}
 use Rattle.machine.specs.declared.cycle.Shown.{Shown}
@@ -173,3 +174,24 @@ module _ (d : Direction) (x : Machine) (g : Bounded x) where
       pub first_refused : (number a ≡ 0 → ⊥) → First d x (number a) x.state (store_shown a)
       first_refused z =
           record { refusal = refusal_is x f.turn inside; state = sym (ap (λ (y : Machine). y.state) (kept_is f.turn z)); store = store_is x f.turn inside f.store }
+
+-- ---- a batch of one is a single turn
+
+single : (d : Direction) (x : Machine)
+    → (let k = turns_made d 1 x in (pick (ltb k 1) (refusal d (after d k x)) 0 ≡ refusal d x) × (after d k x ≡ next d x))
+unfolding after turns_made
+single d x = go (eqb (refusal d x) 0) refl
+  where
+    go : (b : Bool) → eqb (refusal d x) 0 ≡ b
+        → (pick (ltb (pick b 1 0) 1) (refusal d (after d (pick b 1 0) x)) 0 ≡ refusal d x) × (after d (pick b 1 0) x ≡ next d x)
+    go true e = (sym (eqb-true _ _ e), refl)
+    go false e = (refl, sym (refused_keeps d x (eqb-false _ _ e)))
+
+pub one : (d : Direction) (x : Machine) {k w : ℕ} {y : Machine} → BatchPromise d 1 x k w y → TurnPromise d x w y
+one d x h =
+    let s = single d x in
+    record {
+      refusal = h.refusal ∙ (ap (λ (k : ℕ). pick (ltb k 1) (refusal d (after d k x)) 0) h.turns ∙ s.0);
+      left = h.left ∙ (ap (λ (k : ℕ). after d k x) h.turns ∙ s.1);
+      bounds = h.bounds;
+    }

@@ -1,4 +1,4 @@
--- What is claimed of single operations, over the attempt that the contract of operation::attempt cites: of an address by the kind
+-- What is claimed of single operations, over the attempt that the contract of Seen::attempt cites: of an address by the kind
 -- of access (document 01, 15; document 02, #106), and of arib's quotient, equal and less (document 01, "Effects"; document 02, #108).
 -- Proved in proofs/Addresses and proofs/Results.
 use Rattle.std.specs.Prelude.{ℕ, ◌<◌, ◌≤◌, ◌≡◌, ◌≢◌, ◌↔◌, List}

@@ -1,4 +1,4 @@
--- A signed number of 64 bits: its size and its bits, as the code finds them, and its bits as two words. Assumes nothing.
+-- A signed number of 64 bits: its size, its bits, and these as two words. Assumes nothing.
 use Rattle.std.proofs.Common.{◌≡◌, ℕ, zero, suc, ◌+◌, ◌-◌, ◌*◌, ◌/◌, ◌%◌, ◌^◌, ◌<◌, ◌≤◌, Bool, true, false, T, ℤ, pos, negsuc, ◌-ℤ◌, neg_ℤ, nat_abs, sym, refl, ap, ◌∙◌, subst, arith, to_z-of_z, w64, Fits, SFits, to_z, of_z, le-ltb, leb-false}
 use mathlib.Core.Path.{subst⁻¹}
 use lib.IntN.{pred_ℤ, +ℤ_idl, pred_ℤ-+ℤ}
@@ -6,7 +6,7 @@ use lib.Signed.{mag, le_z, non_neg}
 use mir.Val.{sel}
 use mir.Facts.{Fits-of_z, to_z_pos}
 
--- a signed value as the code reads it, from its bits
+-- a signed value as it is read from its bits
 abbrev pub reread : ℤ → ℤ
 reread p = to_z w64 (of_z w64 p)
 
